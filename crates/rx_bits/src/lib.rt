@@ -1,0 +1,6 @@
+//! Reads the numbers of ranges of bits.
+#![tactic(auto)]
+
+mod reading;
+
+pub use reading::get;

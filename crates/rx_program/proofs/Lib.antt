@@ -1,0 +1,5 @@
+pub mod AnswerLemmas
+pub mod ChainLemmas
+pub mod DeclaredLemmas
+pub mod PackageLemmas
+pub mod WordLemmas

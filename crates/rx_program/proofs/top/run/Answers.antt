@@ -1,0 +1,9 @@
+use Rattle.std.proofs.Common.{◌≡◌, ℕ, List, map}
+use Rattle.std.specs.Prelude.{string_bytes}
+use Rattle.std.specs.Io.KnownBytes.{Appends}
+use Rattle.rx_program.proofs.AnswerLemmas.{outcome_of}
+use Rattle.rx_program.proofs.top.run.Goals as goal
+
+pub returns-in-Ok-clause-outcome : goal.returns-in-Ok-clause-outcome
+returns-in-Ok-clause-outcome g c =
+    outcome_of (g.H.Shelf.texts c.args.shelf.now) (g.I.Source.left c.args.input.now) (map string_bytes c.args.words.now) c.in-Ok.answer c.print.result (Appends (g.O.Sink.written c.args.out.now) _) c.in-Ok.ensures.answers c.print.ensures.written

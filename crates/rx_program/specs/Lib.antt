@@ -1,0 +1,9 @@
+pub mod Words
+pub mod Package
+pub mod Chains
+pub mod Decode
+pub mod Answers
+pub mod Supply
+pub mod Input
+pub mod Outcome
+pub mod Status

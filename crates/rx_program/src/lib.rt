@@ -1,0 +1,19 @@
+//! The top call: which bytes and which status answer the words of a command.
+#![tactic(auto)]
+
+mod adapters;
+mod answer;
+mod chains;
+mod decode;
+mod order;
+mod package;
+mod print;
+mod reader;
+mod top;
+mod status;
+mod supply;
+mod words;
+
+pub use adapters::{FolderShelf, StdSink, StdSource};
+pub use top::run;
+pub use status::Status;
