@@ -1,7 +1,7 @@
 -- Chains by their parts: two chains of the same fields have the same field where reading is stuck.
-use Rattle.std.proofs.Common.{◌≡◌, ℕ, ◌+◌, ◌*◌, ◌<◌, ◌≤◌, zero, suc, List, [], ◌∷◌, ◌++◌, length, refl, sym, ap, ◌∙◌, subst, arith, get_or}
+use Rattle.std.proofs.Common.{◌≡◌, ℕ, ◌+◌, ◌*◌, ◌<◌, ◌≤◌, List, [], ◌∷◌, ◌++◌, length, sym, ap, ◌∙◌, arith}
 use Rattle.rx_graph.specs.declared.field.Field.{Field}
-use Rattle.rx_graph.specs.Chain.{size_of, values_from, Reads, IsShort, IsTrailing}
+use Rattle.rx_graph.specs.Chain.{size_of, IsShort}
 use Rattle.rx_graph.specs.Laws.{IsOneReason}
 
 -- sizes add up
@@ -46,7 +46,7 @@ short_total fields bytes field is =
 pub one_reason_lem : (fields : List Field) (bytes : List ℕ) → IsOneReason fields bytes
 one_reason_lem fields bytes = record {
   short = λ one other is is'. same_stop (8 * length bytes) 0 is.front is'.front one other is.back is'.back (sym is.parts ∙ is'.parts)
-    (let h = is.fits in omega arith) (let h = is.no_more in omega arith) (let h = is'.fits in omega arith) (let h = is'.no_more in omega arith);
+      (let h = is.fits in omega arith) (let h = is.no_more in omega arith) (let h = is'.fits in omega arith) (let h = is'.no_more in omega arith);
   trailing = λ one other is is'. same_last is.front is'.front one other (sym is.parts ∙ is'.parts);
   read_not_short = λ values field reads is. let h = short_total fields bytes field is in let w = reads.whole in absurd (omega arith);
   read_not_trailing = λ values field reads is. let h = is.more in let w = reads.whole in absurd (omega arith);

@@ -1,11 +1,10 @@
 -- From what was found to the answer, over plain texts and input.
-use Rattle.std.proofs.Common.{◌≡◌, ℕ, ◌<◌, ◌≤◌, List, [], length, Option, Some, None, IfSome, Result, Ok, Err, IfOk, sym, ◌∙◌}
+use Rattle.std.proofs.Common.{◌≡◌, ℕ, ◌≤◌, List, length, Option, Some, None, IfSome, Result, Ok, Err, IfOk}
 use Rattle.std.specs.Str.{str_to_ascii_lowercase}
 use Rattle.rx_io.specs.declared.shelf.Fetched.{Fetched}
 use Rattle.rx_io.specs.declared.shelf.Fetched.TheVariants.{Text}
 use Rattle.rx_io.specs.Shelf.{Texts, text_of, text_limit, Finds, IsWithin}
 use Rattle.rx_graph.specs.declared.field.Field.{Field}
-use Rattle.rx_program.specs.declared.package.Package.{Package}
 use Rattle.rx_program.specs.declared.status.Status.{Status}
 use Rattle.rx_program.specs.declared.status.Status.TheVariants.{Done, NotAccepted, Words, Specification, Undecided, InputRefused, SinkFault, Limit, NoMemory}
 use Rattle.rx_program.specs.declared.status.Status.TheVariants.{SourceFault as SourceStatus, ShelfFault as ShelfStatus}
@@ -14,8 +13,7 @@ use Rattle.rx_program.specs.declared.answer.Answer.TheVariants as answer
 use Rattle.rx_program.specs.declared.supply.Supplied.{Supplied}
 use Rattle.rx_program.specs.declared.supply.Supplied.TheVariants as supplied
 use Rattle.rx_program.specs.Words.{IsDecode}
-use Rattle.rx_program.specs.Chains.{IsPackage, Declares}
-use Rattle.rx_program.specs.Answers.{Has, Supplies, HasNoPackage, LacksMessage, Asks, Answers}
+use Rattle.rx_program.specs.Answers.{Has, Asks, Answers}
 use Rattle.rx_program.specs.Supply.{IsRead, IsSupplied}
 use Rattle.rx_program.specs.Input.{IsReadAs}
 use Rattle.rx_program.specs.Outcome.{Prints, Outcome}

@@ -1,7 +1,5 @@
 -- Chains, one field more at a time.
-use Rattle.std.proofs.Common.{◌≡◌, ℕ, ◌+◌, ◌*◌, ◌<◌, ◌≤◌, List, [], ◌∷◌, ◌++◌, length, take, drop, map, refl, sym, ap, ◌∙◌, subst, arith, append_assoc, add_assoc, add-zero, zero-add, Option, None, Some, IfNone, get_or, take-append-drop}
-use Rattle.std.specs.Prelude.{sum_by}
-use Rattle.std.proofs.lemmas.Grind.{common_steps}
+use Rattle.std.proofs.Common.{◌≡◌, ℕ, ◌+◌, ◌*◌, ◌<◌, ◌≤◌, List, [], ◌∷◌, ◌++◌, length, take, drop, map, refl, sym, ap, ◌∙◌, arith, append_assoc, add_assoc, add-zero, zero-add, Option, None, Some, IfNone, get_or, take-append-drop}
 use Rattle.std.proofs.lemmas.List.{take_more}
 use Rattle.rx_model.specs.Bits.{number, place_bits}
 use mathlib.Core.List.{map-append}

@@ -1,7 +1,6 @@
 -- Declarations and fields one by one, in the order of the text.
-use Rattle.std.proofs.Common.{◌≡◌, ℕ, zero, suc, ◌+◌, ◌<◌, ◌≤◌, ◌⊎◌, inl, inr, Bool, true, false, List, [], ◌∷◌, ◌++◌, length, take, map, get_or, refl, sym, ap, ◌∙◌, subst, arith, Option, Some, None}
+use Rattle.std.proofs.Common.{◌≡◌, ℕ, zero, suc, ◌+◌, ◌<◌, inl, inr, true, false, List, [], ◌∷◌, ◌++◌, length, take, map, get_or, refl, sym, ap, ◌∙◌, subst, arith, Some, None}
 use Rattle.std.specs.Prelude.{slice_get}
-use Rattle.std.specs.Option.{option_map}
 use Rattle.std.proofs.lemmas.List.{take_more}
 use Rattle.std.proofs.lemmas.Bool.{cases_lt}
 use mathlib.Core.List.{map-append}
@@ -10,7 +9,7 @@ use Rattle.rx_graph.specs.Chain.{size_of}
 use Rattle.rx_program.specs.declared.package.Written.{Written}
 use Rattle.rx_program.specs.declared.package.Declaration.{Declaration}
 use Rattle.rx_program.specs.declared.package.Declaration.TheVariants.{Unsigned, Message}
-use Rattle.rx_program.specs.Chains.{name_of, is_new_type, size_of_type, field_of, IsDeclared, IsMessage}
+use Rattle.rx_program.specs.Chains.{name_of, is_new_type, field_of, IsDeclared}
 
 -- what holds of each item before one, and of that one, holds of each up to it
 pub below_next : {A : Type 0} (P : ℕ → A → Type 0) (xs : List A) (k : ℕ) (x : A) → slice_get xs k ≡ Some x
@@ -31,7 +30,7 @@ pub fields-next : (types : List Declaration) (written : List Written) (fields : 
 fields-next types written fields k w f within is so_far this =
     let more : take (k + 1) written ≡ take k written ++ w ∷ [] = take_more written k w within ∙ ap (λ v. take k written ++ v ∷ []) (sym is) in
     map-append Some fields (f ∷ []) ∙ ap (λ l. l ++ Some f ∷ []) so_far ∙ ap (λ v. map (field_of types) (take k written) ++ v ∷ []) this
-      ∙ sym (ap (map (field_of types)) more ∙ map-append (field_of types) (take k written) (w ∷ []))
+    ∙ sym (ap (map (field_of types)) more ∙ map-append (field_of types) (take k written) (w ∷ []))
 
 -- a field whose type is none of these
 pub untyped_at : (types : List Declaration) (written : List Written) (fields : List Field) (k : ℕ) (w : Written) → k < length written → w ≡ get_or written k w

@@ -1,13 +1,11 @@
 -- Tokens of packages: one list of tokens spells at most one package.
 use Rattle.std.proofs.Common.{◌≡◌, ℕ, ◌<◌, ◌≤◌, List, [], ◌∷◌, ◌++◌, length, refl, sym, ap, ◌∙◌, codes, arith}
 use Rattle.rx_syntax.specs.declared.token.TokenKind.{TokenKind}
-use Rattle.rx_syntax.specs.declared.token.TokenKind.TheVariants.{Word, Number, Mark}
-use Rattle.rx_syntax.specs.declared.token.Mark.TheVariants.{Colon, Semicolon}
 use Rattle.rx_program.specs.declared.package.Written.{Written}
 use Rattle.rx_program.specs.declared.package.Declaration.{Declaration}
 use Rattle.rx_program.specs.declared.package.Declaration.TheVariants.{Unsigned, Message}
 use Rattle.rx_program.specs.declared.package.Package.{Package}
-use Rattle.rx_program.specs.Package.{front_tokens, head_tokens, unsigned_tokens, end_tokens, message_tokens, field_tokens, fields_tokens, declaration_tokens, declarations_tokens, tail_tokens, package_tokens}
+use Rattle.rx_program.specs.Package.{head_tokens, unsigned_tokens, end_tokens, message_tokens, field_tokens, fields_tokens, declaration_tokens, declarations_tokens, tail_tokens, package_tokens}
 
 -- one field more
 pub fields_tokens-push : (fields : List Written) (field : Written) (rest : List TokenKind) → fields_tokens (fields ++ field ∷ []) rest ≡ fields_tokens fields (field_tokens field rest)

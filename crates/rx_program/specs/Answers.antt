@@ -1,6 +1,6 @@
 -- Which answer belongs to the words of a command, the texts on the shelf and the input.
 -- Supplies: the package that the shelf has; Asks: the fields that the words ask for; Answers: the answers by cases.
-use Rattle.std.specs.Prelude.{◌≡◌, ℕ, ◌<◌, ◌≤◌, List, [], ◌∷◌, ◌++◌, length, Some, None}
+use Rattle.std.specs.Prelude.{◌≡◌, ℕ, ◌<◌, ◌≤◌, List, length, Some, None}
 use Rattle.std.specs.Str.{str_to_ascii_lowercase}
 use Rattle.rx_io.specs.Shelf.{Texts, text_of, text_limit}
 use Rattle.rx_graph.specs.declared.field.Field.{Field}

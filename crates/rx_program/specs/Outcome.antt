@@ -3,7 +3,7 @@ use Rattle.std.specs.Prelude.{◌≡◌, ℕ, List, [], ◌∷◌, ◌++◌, tak
 use Rattle.std.specs.Str.{str_to_ascii_lowercase}
 use Rattle.rx_io.specs.Shelf.{Texts}
 use Rattle.rx_program.specs.declared.status.Status.{Status}
-use Rattle.rx_program.specs.declared.status.Status.TheVariants.{Done, NotAccepted, Words, Specification, Undecided, InputRefused, SinkFault, Limit, NoMemory}
+use Rattle.rx_program.specs.declared.status.Status.TheVariants.{Done, Words, Specification, InputRefused, SinkFault, Limit, NoMemory}
 use Rattle.rx_program.specs.declared.status.Status.TheVariants.{SourceFault as SourceStatus, ShelfFault as ShelfStatus}
 use Rattle.rx_program.specs.declared.answer.Member.{Member}
 use Rattle.rx_program.specs.declared.answer.Decoding.TheVariants.{Decoded, Short, Trailing}

@@ -47,7 +47,9 @@ fn is_new_type(earlier: &[Declaration], name: &Word) -> bool
 fn has_field(earlier: &[Written], name: &Word) -> bool
     ensures { result ≡ list_any (λ other. is_same other.name name.now) earlier.now }
 {
-    earlier.iter().any(|other| other.name.is_same(name.as_str()))
+    earlier
+        .iter()
+        .any(|other| other.name.is_same(name.as_str()))
 }
 
 // Whether a field may stand after these ones.
@@ -150,7 +152,11 @@ fn chain_of(
 }
 
 // Whether the declaration may stand after these ones.
-fn is_declared(alloc: Global, earlier: &[Declaration], declaration: &Declaration) -> Result<bool, NoMemory>
+fn is_declared(
+    alloc: Global,
+    earlier: &[Declaration],
+    declaration: &Declaration,
+) -> Result<bool, NoMemory>
     ensures { IfOk result (λ yes. IsTrue yes ↔ IsDeclared earlier.now declaration.now) }
 {
     if !is_new_type(earlier, name_of(declaration)) {

@@ -9,11 +9,13 @@ mod order;
 mod package;
 mod print;
 mod reader;
-mod top;
 mod status;
 mod supply;
+#[cfg(test)]
+mod tests;
+mod top;
 mod words;
 
 pub use adapters::{FolderShelf, StdSink, StdSource};
-pub use top::run;
 pub use status::Status;
+pub use top::run;

@@ -13,8 +13,10 @@ pub fn in_order(mut members: Vec<Member>) -> Result<Vec<Member>, NoMemory>
     ensures permutation { IfOk result (λ sorted. IsPermutation members.items sorted.items) }
     ensures sorted { IfOk result (λ sorted. IsSortedByKey (λ member. member.name) (slice_cmp nat_cmp) sorted.items) }
 {
-    members.sort_by(|a: &Member, b: &Member| -> Ordering
-        ensures { result ≡ slice_cmp nat_cmp a.now.name b.now.name }
-    { a.name.as_str().as_bytes().cmp(b.name.as_str().as_bytes()) })?;
+    members.sort_by(
+        |a: &Member, b: &Member| -> Ordering
+            ensures { result ≡ slice_cmp nat_cmp a.now.name b.now.name }
+        { a.name.as_str().as_bytes().cmp(b.name.as_str().as_bytes()) },
+    )?;
     Ok(members)
 }

@@ -83,7 +83,12 @@ fn unknown(alloc: Global, name: &Word, lacking: &Word) -> Result<Vec<u8>, NoMemo
     ensures { IfOk result (λ text. text.items ≡ file_of name.now ++ codes ": 8 UnknownName " ++ lacking.now ++ 10 ∷ []) }
 {
     let file = file_of(alloc, name)?;
-    line_of(alloc, &file, b": 8 UnknownName ", lacking.as_str().as_bytes())
+    line_of(
+        alloc,
+        &file,
+        b": 8 UnknownName ",
+        lacking.as_str().as_bytes(),
+    )
 }
 
 // The status of an answer.
@@ -115,7 +120,12 @@ fn input_text(alloc: Global, decoding: &Decoding) -> Result<Vec<u8>, NoMemory>
             line_of(alloc, b"", &text, b"")
         }
         Decoding::Short(name) => line_of(alloc, b"refused: Short ", name.as_str().as_bytes(), b""),
-        Decoding::Trailing(name) => line_of(alloc, b"refused: Trailing ", name.as_str().as_bytes(), b""),
+        Decoding::Trailing(name) => line_of(
+            alloc,
+            b"refused: Trailing ",
+            name.as_str().as_bytes(),
+            b"",
+        ),
     }
 }
 

@@ -17,13 +17,7 @@ fn after_word<'a>(tokens: &'a [TokenKind], word: &str) -> Option<&'a [TokenKind]
     ensures none { IfNone result ((rest : List TokenKind) → tokens.now ≡ TokenKind.Word word.now ∷ rest → ⊥) }
 {
     match tokens {
-        [TokenKind::Word(first), rest @ ..] => {
-            if first.is(word) {
-                Some(rest)
-            } else {
-                None
-            }
-        }
+        [TokenKind::Word(first), rest @ ..] => { if first.is(word) { Some(rest) } else { None } }
         _ => None,
     }
 }
@@ -45,13 +39,7 @@ fn after_mark<'a>(tokens: &'a [TokenKind], mark: Mark) -> Option<&'a [TokenKind]
     ensures none { IfNone result ((rest : List TokenKind) → tokens.now ≡ TokenKind.Mark mark ∷ rest → ⊥) }
 {
     match tokens {
-        [TokenKind::Mark(first), rest @ ..] => {
-            if *first == mark {
-                Some(rest)
-            } else {
-                None
-            }
-        }
+        [TokenKind::Mark(first), rest @ ..] => { if *first == mark { Some(rest) } else { None } }
         _ => None,
     }
 }

@@ -85,7 +85,11 @@ fn read_text(alloc: Global, text: &[u8], operand: &Operand) -> Result<Supplied, 
 }
 
 /// Looks on the shelf for the fields of the message.
-pub fn supply<H: Shelf>(alloc: Global, operand: &Operand, shelf: &mut H) -> Result<Supplied, NoMemory>
+pub fn supply<H: Shelf>(
+    alloc: Global,
+    operand: &Operand,
+    shelf: &mut H,
+) -> Result<Supplied, NoMemory>
     ensures supplied { IfOk result (λ supplied. IfSome (H.texts shelf.old) (λ texts. IsSupplied texts operand.now.name operand.now.message supplied)) }
     ensures decodable { IfOk result IsDecodable }
     ensures same { SameTexts (H.texts shelf.old) (H.texts shelf.new) }

@@ -9,9 +9,34 @@ use crate::lexer::{is_letter, is_word_byte};
 
 /// The words that the grammar keeps for itself; one with a capital letter is a name.
 pub const RESERVED: [&str; 28] = [
-    "and", "begin", "end", "exception", "for", "generic", "goto", "if", "is", "machine", "message", "mod", "new",
-    "not", "null", "of", "or", "package", "range", "sequence", "session", "state", "then", "transition", "type",
-    "unsigned", "use", "with",
+    "and",
+    "begin",
+    "end",
+    "exception",
+    "for",
+    "generic",
+    "goto",
+    "if",
+    "is",
+    "machine",
+    "message",
+    "mod",
+    "new",
+    "not",
+    "null",
+    "of",
+    "or",
+    "package",
+    "range",
+    "sequence",
+    "session",
+    "state",
+    "then",
+    "transition",
+    "type",
+    "unsigned",
+    "use",
+    "with",
 ];
 
 // Whether no `_` stands beside another or at the end.

@@ -1,4 +1,4 @@
-use Rattle.std.proofs.Common.{◌≡◌, ◌+◌, ◌≤◌, take, arith}
+use Rattle.std.proofs.Common.{arith}
 use Rattle.rx_program.proofs.DeclaredLemmas.{size_of-take_more}
 use Rattle.rx_program.proofs.chains.size_of.Goals as goal
 

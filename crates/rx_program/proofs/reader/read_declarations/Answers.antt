@@ -1,4 +1,4 @@
-use Rattle.std.proofs.Common.{◌≡◌, List, ◌∷◌, ◌++◌, [], ap, sym, ◌∙◌}
+use Rattle.std.proofs.Common.{◌≡◌, ◌∷◌, ◌++◌, [], ap, sym, ◌∙◌}
 use Rattle.rx_program.specs.Package.{declaration_tokens, declarations_tokens}
 use Rattle.rx_program.proofs.PackageLemmas.{declarations_tokens-push, declaration_longer}
 use Rattle.rx_program.proofs.reader.read_declarations.Goals as goal

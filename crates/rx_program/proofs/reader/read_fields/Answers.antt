@@ -1,4 +1,4 @@
-use Rattle.std.proofs.Common.{◌≡◌, List, ◌∷◌, ◌++◌, [], ap, sym, refl, ◌∙◌}
+use Rattle.std.proofs.Common.{◌≡◌, ◌∷◌, ◌++◌, [], ap, sym, refl, ◌∙◌}
 use Rattle.rx_program.specs.declared.package.Written.{Written}
 use Rattle.rx_program.specs.Package.{field_tokens, fields_tokens}
 use Rattle.rx_program.proofs.PackageLemmas.{fields_tokens-push}

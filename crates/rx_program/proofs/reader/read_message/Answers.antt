@@ -1,5 +1,5 @@
-use Rattle.std.proofs.Common.{◌≡◌, List, ◌∷◌, sym, ◌∙◌}
-use Rattle.rx_program.specs.Package.{fields_tokens, end_tokens, message_tokens}
+use Rattle.std.proofs.Common.{◌≡◌}
+use Rattle.rx_program.specs.Package.{fields_tokens, end_tokens}
 use Rattle.rx_program.proofs.PackageLemmas.{fields_same, end-NoField}
 use Rattle.rx_program.proofs.reader.read_message.Goals as goal
 

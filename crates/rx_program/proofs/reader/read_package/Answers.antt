@@ -1,5 +1,5 @@
-use Rattle.std.proofs.Common.{◌≡◌, List, ◌∷◌, sym, ◌∙◌}
-use Rattle.rx_program.specs.Package.{declarations_tokens, tail_tokens, package_tokens}
+use Rattle.std.proofs.Common.{◌≡◌}
+use Rattle.rx_program.specs.Package.{declarations_tokens, tail_tokens}
 use Rattle.rx_program.proofs.PackageLemmas.{declarations_same, tail-NoDeclaration}
 use Rattle.rx_program.proofs.reader.read_package.Goals as goal
 

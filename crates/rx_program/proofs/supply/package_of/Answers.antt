@@ -1,5 +1,4 @@
-use Rattle.std.proofs.Common.{◌≡◌, true, false, List, Some, sym, subst, ◌∙◌}
-use Rattle.rx_syntax.specs.Tokens.{tokens_of}
+use Rattle.std.proofs.Common.{◌≡◌, true, false, sym, subst, ◌∙◌}
 use Rattle.rx_program.specs.declared.package.Package.{Package}
 use Rattle.rx_program.specs.Package.{package_tokens}
 use Rattle.rx_program.specs.Chains.{IsWellFormed}

@@ -1,4 +1,3 @@
-use Rattle.std.proofs.Common.{◌≡◌}
 use Rattle.rx_program.proofs.supply.read_text.Goals as goal
 
 pub returns-clause-read : goal.returns-clause-read

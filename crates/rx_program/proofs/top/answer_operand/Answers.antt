@@ -1,6 +1,3 @@
-use Rattle.std.proofs.Common.{◌≡◌, ℕ, List, IfSome, IfOk}
-use Rattle.rx_program.specs.Supply.{IsSupplied}
-use Rattle.rx_program.specs.Input.{IsReadAs}
 use Rattle.rx_program.proofs.AnswerLemmas.{answered}
 use Rattle.rx_program.proofs.top.answer_operand.Goals as goal
 

@@ -1,8 +1,7 @@
-use Rattle.std.proofs.Common.{◌≡◌, ◌≢◌, ℕ, ◌+◌, ◌-◌, ◌<◌, ◌≤◌, true, false, List, length, get_or, take, drop, ap, sym, ◌∙◌, arith}
+use Rattle.std.proofs.Common.{◌≡◌, ◌+◌, ◌-◌, ◌≤◌, true, length, get_or, take, drop, sym, ◌∙◌, arith}
 use Rattle.std.proofs.lemmas.Grind.{common_steps}
 use Rattle.std.proofs.lemmas.List.{take_rest}
 use Rattle.rx_syntax.specs.Names.{is_name}
-use Rattle.rx_program.specs.Words.{IsOperand}
 use Rattle.rx_program.proofs.WordLemmas.{stands_at, parts_at, name_bytes}
 use Rattle.rx_program.proofs.words.operand_of.Goals as goal
 

@@ -1,4 +1,4 @@
-use Rattle.std.proofs.Common.{◌≡◌, ℕ, ◌+◌, ap, sym, ◌∙◌, true, false, refl, arith, take}
+use Rattle.std.proofs.Common.{sym, ◌∙◌, refl}
 use Rattle.rx_syntax.proofs.TokenLemmas.{lexeme_of-digit, longest_run}
 use Rattle.rx_syntax.proofs.lexer.lexeme.Goals as goal
 
