@@ -3,3 +3,7 @@ pub mod ChainLemmas
 pub mod DeclaredLemmas
 pub mod PackageLemmas
 pub mod WordLemmas
+pub mod OneAnswer
+pub mod OneDecoding
+pub mod OneFields
+pub mod OneOrder

@@ -7,3 +7,4 @@ pub mod Supply
 pub mod Input
 pub mod Outcome
 pub mod Status
+pub mod Laws

@@ -5,6 +5,7 @@ mod adapters;
 mod answer;
 mod chains;
 mod decode;
+pub mod laws;
 mod order;
 mod package;
 mod print;
