@@ -4,7 +4,7 @@ use Rattle.std.specs.Str.{str_to_ascii_lowercase}
 use Rattle.rx_io.specs.declared.shelf.Fetched.{Fetched}
 use Rattle.rx_io.specs.declared.shelf.Fetched.TheVariants.{Text}
 use Rattle.rx_io.specs.Shelf.{Texts, text_of, text_limit, Finds, IsWithin}
-use Rattle.rx_graph.specs.declared.field.Field.{Field}
+use Rattle.rx_program.specs.declared.chain.Field.{Field}
 use Rattle.rx_program.specs.declared.status.Status.{Status}
 use Rattle.rx_program.specs.declared.status.Status.TheVariants.{Done, NotAccepted, Words, Specification, Undecided, InputRefused, SinkFault, Limit, NoMemory}
 use Rattle.rx_program.specs.declared.status.Status.TheVariants.{SourceFault as SourceStatus, ShelfFault as ShelfStatus}

@@ -4,8 +4,8 @@ use Rattle.std.proofs.lemmas.List.{take_more}
 use Rattle.rx_model.specs.Bits.{number, place_bits}
 use mathlib.Core.List.{map-append}
 use Rattle.rx_program.specs.declared.answer.Member.{Member}
-use Rattle.rx_graph.specs.declared.field.Field.{Field}
-use Rattle.rx_graph.specs.Chain.{size_of, values_from, IsShort}
+use Rattle.rx_program.specs.declared.chain.Field.{Field}
+use Rattle.rx_program.specs.Chain.{size_of, values_from, IsShort}
 
 -- one field more
 pub size_of-push : (fields : List Field) (field : Field) → size_of (fields ++ field ∷ []) ≡ size_of fields + field.size

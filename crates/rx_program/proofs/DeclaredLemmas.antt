@@ -4,8 +4,8 @@ use Rattle.std.specs.Prelude.{slice_get}
 use Rattle.std.proofs.lemmas.List.{take_more}
 use Rattle.std.proofs.lemmas.Bool.{cases_lt}
 use mathlib.Core.List.{map-append}
-use Rattle.rx_graph.specs.declared.field.Field.{Field}
-use Rattle.rx_graph.specs.Chain.{size_of}
+use Rattle.rx_program.specs.declared.chain.Field.{Field}
+use Rattle.rx_program.specs.Chain.{size_of}
 use Rattle.rx_program.specs.declared.package.Written.{Written}
 use Rattle.rx_program.specs.declared.package.Declaration.{Declaration}
 use Rattle.rx_program.specs.declared.package.Declaration.TheVariants.{Unsigned, Message}

@@ -1,7 +1,9 @@
 pub mod AnswerLemmas
 pub mod ChainLemmas
+pub mod StuckLemmas
 pub mod DeclaredLemmas
 pub mod PackageLemmas
+pub mod SpelledLemmas
 pub mod WordLemmas
 pub mod OneAnswer
 pub mod OneDecoding

@@ -3,8 +3,8 @@ use Rattle.std.proofs.Common.{◌≡◌, ℕ, ◌<◌, List, [], ◌∷◌, leng
 use Rattle.std.specs.Option.{option_map}
 use Rattle.std.proofs.lemmas.List.{get_or-map, length-map}
 use Rattle.std.proofs.lemmas.Option.{slice_get-get_or}
-use Rattle.rx_graph.specs.declared.field.Field.{Field}
-use Rattle.rx_graph.proofs.Chains.{one_reason_lem}
+use Rattle.rx_program.specs.declared.chain.Field.{Field}
+use Rattle.rx_program.proofs.StuckLemmas.{one_reason_lem}
 use Rattle.rx_program.specs.declared.package.Written.{Written}
 use Rattle.rx_program.specs.declared.package.Declaration.{Declaration}
 use Rattle.rx_program.specs.declared.package.Declaration.TheVariants.{Unsigned, Message}

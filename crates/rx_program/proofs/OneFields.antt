@@ -7,14 +7,15 @@ use Rattle.std.proofs.lemmas.Slice.Eq.{bytes_eq-Decides}
 use Rattle.std.proofs.lemmas.List.{get_or-take}
 use Rattle.std.proofs.lemmas.List.Folds.{list_any_at}
 use Rattle.std.proofs.lemmas.Option.{slice_get_within, get_or_from_slice_get}
-use Rattle.rx_syntax.specs.Names.{is_name, is_same}
-use Rattle.rx_graph.specs.declared.field.Field.{Field}
+use Rattle.rx_program.specs.Names.{is_name, is_same}
+use Rattle.rx_program.specs.declared.chain.Field.{Field}
 use Rattle.rx_program.specs.declared.package.Written.{Written}
 use Rattle.rx_program.specs.declared.package.Declaration.{Declaration}
 use Rattle.rx_program.specs.declared.package.Declaration.TheVariants.{Unsigned, Message}
 use Rattle.rx_program.specs.declared.package.Package.{Package}
 use Rattle.rx_program.specs.Words.{is_no_colon, IsOperand, IsDecode}
-use Rattle.rx_program.specs.Package.{package_tokens}
+use Rattle.rx_syntax.proofs.Goes.{one_list}
+use Rattle.rx_program.specs.Package.{kinds_of, package_tokens}
 use Rattle.rx_program.specs.Chains.{name_of, is_new_type, is_new_field, AreNewFields, IsDeclared, AreDeclared, IsPackage, IsMessage, Declares}
 use Rattle.rx_program.proofs.WordLemmas.{stands_at}
 use Rattle.rx_program.proofs.PackageLemmas.{package_same}
@@ -41,8 +42,8 @@ decode_same (a ∷ b ∷ c ∷ rest) name message other another is is' = absurd 
 -- a text is that of one package
 pub is_package_same : (text name : List ℕ) (p q : Package) → IsPackage text name p → IsPackage text name q → p ≡ q
 is_package_same text name p q is is' =
-    let both : Some (package_tokens p) ≡ Some (package_tokens q) = sym is.tokens ∙ is'.tokens in
-    package_same p q (let same : package_tokens p ≡ package_tokens q = cc in same)
+    let tokens = one_list text is.tokens is'.tokens is.last is'.last is.are is'.are in
+    package_same p q (sym is.spelled ∙ ap kinds_of tokens ∙ is'.spelled)
 
 -- the same in whatever case as a third one
 pub is_same-joined : (a b c : List ℕ) → is_same a c ≡ true → is_same b c ≡ true → is_same a b ≡ true

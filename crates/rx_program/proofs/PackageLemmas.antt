@@ -1,5 +1,5 @@
 -- Tokens of packages: one list of tokens spells at most one package.
-use Rattle.std.proofs.Common.{◌≡◌, ℕ, ◌<◌, ◌≤◌, List, [], ◌∷◌, ◌++◌, length, refl, sym, ap, ◌∙◌, codes, arith}
+use Rattle.std.proofs.Common.{◌≡◌, ℕ, ℤ, ◌<◌, ◌≤◌, List, [], ◌∷◌, ◌++◌, length, refl, sym, ap, ◌∙◌, codes, arith}
 use Rattle.rx_syntax.specs.declared.token.TokenKind.{TokenKind}
 use Rattle.rx_program.specs.declared.package.Written.{Written}
 use Rattle.rx_program.specs.declared.package.Declaration.{Declaration}
@@ -113,7 +113,7 @@ package_same p q e =
 
 -- a declaration is that of an unsigned type or of a message
 pub no_declaration : (name : List ℕ) (tokens rest : List TokenKind) → tokens ≡ head_tokens name rest
-    → ((size : ℕ) (more : List TokenKind) → rest ≡ unsigned_tokens size more → ⊥)
+    → ((size : ℤ) (more : List TokenKind) → rest ≡ unsigned_tokens size more → ⊥)
     → ((fields : List Written) (more : List TokenKind) → rest ≡ message_tokens fields more → ⊥) → NoDeclaration tokens
 no_declaration name tokens rest is unsigned message (Unsigned other size) more e = unsigned size more (let same : rest ≡ unsigned_tokens size more = cc in same)
 no_declaration name tokens rest is unsigned message (Message other fields) more e = message fields more (let same : rest ≡ message_tokens fields more = cc in same)

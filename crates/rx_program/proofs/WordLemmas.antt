@@ -1,6 +1,7 @@
 -- The parts of an operand.
 use Rattle.std.proofs.Common.{◌≡◌, ℕ, suc, ◌+◌, ◌<◌, ◌≤◌, Bool, true, false, ◌&&◌, List, [], ◌∷◌, ◌++◌, length, map, take, drop, get_or, refl, sym, ap, ◌∙◌, arith, codes, length-append, take-append-drop, drop-cons, add-one, not, Option, None, Some, Result, Ok, Err, IfOk, IfSome}
-use Rattle.std.specs.Str.{bytes_eq}
+use Rattle.std.specs.Str.{bytes_eq, IsAscii}
+use Rattle.std.proofs.lemmas.Str.Ascii.{IsAscii-nil, IsAscii-cons}
 use Rattle.std.proofs.lemmas.Slice.Eq.{bytes_eq-Decides}
 use Rattle.rx_program.specs.declared.words.Operand.{Operand}
 use Rattle.std.proofs.lemmas.List.Sums.{prefix_len_stops}
@@ -8,8 +9,8 @@ use Rattle.std.specs.List.{list_all, prefix_len}
 use Rattle.std.proofs.lemmas.Bool.Decides.{nat_tests}
 use Rattle.std.proofs.lemmas.List.{take_at, get_or-append-add}
 use Rattle.std.proofs.Math.Seq.{drop-append-add}
-use Rattle.rx_syntax.specs.Bytes.{is_letter, is_word_byte}
-use Rattle.rx_syntax.specs.Names.{is_word, is_joined_run, is_reserved, is_name}
+use Rattle.rx_syntax.specs.Bytes.{is_letter, is_word_byte, is_name as is_joined}
+use Rattle.rx_program.specs.Names.{is_word, is_reserved, is_name}
 use Rattle.rx_program.specs.Words.{is_no_colon, IsOperand, IsDecode}
 
 no_colon : (b : ℕ) → is_word_byte b ≡ true → is_no_colon b ≡ true
@@ -33,7 +34,7 @@ colon_after (b ∷ bs) rest all =
 word_bytes : (name : List ℕ) → is_word name ≡ true → list_all is_word_byte name ≡ true
 word_bytes [] word = absurd (let no : false ≡ true = word in cc)
 word_bytes (b ∷ bs) word =
-    let front = both (is_letter b && list_all is_word_byte bs) (is_joined_run (b ∷ bs)) word in
+    let front = both (is_letter b && list_all is_word_byte bs) (is_joined (b ∷ bs)) word in
     let parts = both (is_letter b) (list_all is_word_byte bs) front.0 in
     rw (letter_in_word b parts.0) parts.1
 
@@ -108,3 +109,16 @@ text_is a b differs is same =
     not_false : (t : Bool) → not t ≡ false → t ≡ true
     not_false true h = refl
     not_false false h = absurd (let no : true ≡ false = h in cc)
+
+word_byte_small : (b : ℕ) → is_word_byte b ≡ true → b < 128
+word_byte_small b is = grind (arith, nat_tests)
+
+word_bytes_ascii : (bs : List ℕ) → list_all is_word_byte bs ≡ true → IsAscii bs
+word_bytes_ascii [] all = IsAscii-nil
+word_bytes_ascii (b ∷ bs) all =
+    let parts = both (is_word_byte b) (list_all is_word_byte bs) all in
+    IsAscii-cons b bs (word_byte_small b parts.0) (word_bytes_ascii bs parts.1)
+
+-- names are ASCII
+pub name_ascii : (name : List ℕ) → is_name name ≡ true → IsAscii name
+name_ascii name is = word_bytes_ascii name (name_bytes name is)

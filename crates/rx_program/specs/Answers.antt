@@ -3,7 +3,7 @@
 use Rattle.std.specs.Prelude.{◌≡◌, ℕ, ◌<◌, ◌≤◌, List, length, Some, None}
 use Rattle.std.specs.Str.{str_to_ascii_lowercase}
 use Rattle.rx_io.specs.Shelf.{Texts, text_of, text_limit}
-use Rattle.rx_graph.specs.declared.field.Field.{Field}
+use Rattle.rx_program.specs.declared.chain.Field.{Field}
 use Rattle.rx_program.specs.Words.{IsDecode, HaveNoForm}
 use Rattle.rx_program.specs.declared.package.Package.{Package}
 use Rattle.rx_program.specs.Chains.{IsPackage, Declares}

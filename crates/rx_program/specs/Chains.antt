@@ -1,17 +1,19 @@
 -- Which declarations may stand in a package, and the chain of fields that a message's declaration is.
 -- IsChain: a message's fields; IsDeclared: one declaration; IsPackage: a text; Declares: a message of a package.
-use Rattle.std.specs.Prelude.{◌≡◌, ◌&&◌, not, nat_le, ℕ, ◌<◌, ◌≤◌, ◌%◌, Bool, true, List, [], ◌∷◌, length, take, map, codes, slice_get, Option, Some, None, if◌then◌else◌}
+use Rattle.std.specs.Prelude.{◌≡◌, ◌&&◌, not, ℕ, ℤ, pos, int_le, unsigned_abs, ◌<◌, ◌≤◌, ◌%◌, Bool, true, List, [], ◌∷◌, length, take, map, codes, slice_get, Option, Some, None, if◌then◌else◌}
 use Rattle.std.specs.List.{list_any}
 use Rattle.std.specs.Option.{option_map}
-use Rattle.rx_syntax.specs.Tokens.{tokens_of}
-use Rattle.rx_syntax.specs.Names.{is_name, is_same}
-use Rattle.rx_graph.specs.declared.field.Field.{Field}
-use Rattle.rx_graph.specs.Chain.{size_of}
+use Rattle.rx_syntax.specs.declared.token.Token.{Token}
+use Rattle.rx_syntax.specs.declared.token.Place.{Place}
+use Rattle.rx_syntax.specs.Text.{AreTokens}
+use Rattle.rx_program.specs.Names.{is_name, is_same}
+use Rattle.rx_program.specs.declared.chain.Field.{Field}
+use Rattle.rx_program.specs.Chain.{size_of}
 use Rattle.rx_program.specs.declared.package.Written.{Written}
 use Rattle.rx_program.specs.declared.package.Declaration.{Declaration}
 use Rattle.rx_program.specs.declared.package.Declaration.TheVariants.{Unsigned, Message}
 use Rattle.rx_program.specs.declared.package.Package.{Package}
-use Rattle.rx_program.specs.Package.{package_tokens}
+use Rattle.rx_program.specs.Package.{kinds_of, package_tokens}
 
 abbrev pub name_of : Declaration → List ℕ
 name_of (Unsigned name size) = name
@@ -30,13 +32,13 @@ is_new_field earlier field =
     && not (list_any (λ other. is_same other.name field.name) earlier)
 
 -- a size that an unsigned type may have, in bits
-abbrev pub is_size : ℕ → Bool
-is_size size = nat_le 1 size && nat_le size 63
+abbrev pub is_size : ℤ → Bool
+is_size size = int_le (pos 1) size && int_le size (pos 63)
 
 -- the size of the unsigned type of this name
 abbrev pub size_of_type : List Declaration → List ℕ → Option ℕ
 size_of_type [] name = None
-size_of_type (Unsigned other size ∷ ds) name = if is_same other name && is_size size then Some size else size_of_type ds name
+size_of_type (Unsigned other size ∷ ds) name = if is_same other name && is_size size then Some (unsigned_abs size) else size_of_type ds name
 size_of_type (Message other fields ∷ ds) name = size_of_type ds name
 
 -- the field, where an unsigned type among these has its type's name
@@ -80,7 +82,10 @@ pub record IsWellFormed (p : Package) (name : List ℕ) : Type 0 where
 
 -- the text is that of the package of this name
 pub record IsPackage (text name : List ℕ) (p : Package) : Type 0 where
-  pub tokens : tokens_of text ≡ Some (package_tokens p)
+  pub tokens : List Token
+  pub last : Place
+  pub are : AreTokens text tokens last
+  pub spelled : kinds_of tokens ≡ package_tokens p
   pub formed : IsWellFormed p name
 
 -- the declaration after these ones is that of a message of this name, with this chain of fields

@@ -3,8 +3,8 @@ use Rattle.std.specs.Prelude.{◌≡◌, ℕ, ◌<◌, ◌≤◌, List, map, len
 use Rattle.std.specs.List.Sorted.{IsPermutation, IsSortedByKey}
 use Rattle.std.specs.Ordering.{nat_cmp}
 use Rattle.std.specs.Cmp.Lexicographic.{slice_cmp}
-use Rattle.rx_graph.specs.declared.field.Field.{Field}
-use Rattle.rx_graph.specs.Chain.{Reads, IsShort, IsTrailing}
+use Rattle.rx_program.specs.declared.chain.Field.{Field}
+use Rattle.rx_program.specs.Chain.{Reads, IsShort, IsTrailing}
 use Rattle.rx_program.specs.declared.answer.Member.{Member}
 use Rattle.rx_program.specs.declared.answer.Decoding.{Decoding}
 use Rattle.rx_program.specs.declared.answer.Decoding.TheVariants.{Decoded, Short, Trailing}

@@ -1,6 +1,6 @@
 -- What the input is of a message with given fields.
 use Rattle.std.specs.Prelude.{ℕ, ◌<◌, ◌≤◌, List, length}
-use Rattle.rx_graph.specs.declared.field.Field.{Field}
+use Rattle.rx_program.specs.declared.chain.Field.{Field}
 use Rattle.rx_program.specs.declared.answer.Answer.{Answer}
 use Rattle.rx_program.specs.declared.answer.Answer.TheVariants.{SourceFault, InputLimit, Input}
 use Rattle.rx_program.specs.Decode.{DecodesTo}

@@ -1,5 +1,8 @@
 pub mod Words
+pub mod Names
 pub mod Package
+pub mod Chain
+pub mod ChainLaws
 pub mod Chains
 pub mod Decode
 pub mod Answers

@@ -1,13 +1,18 @@
 -- Packages of unsigned types and of messages, as their tokens spell them.
 -- package_tokens: the one spelling of a package; its parts before other tokens, so that each spelling is one list.
-use Rattle.std.specs.Prelude.{ℕ, List, [], ◌∷◌, codes}
-use Rattle.rx_syntax.specs.declared.token.Mark.TheVariants.{Colon, Semicolon}
+use Rattle.std.specs.Prelude.{ℕ, ℤ, List, [], ◌∷◌, codes, map}
+use Rattle.rx_syntax.specs.declared.mark.Mark.TheVariants.{Colon, Semicolon}
+use Rattle.rx_syntax.specs.declared.token.Token.{Token}
 use Rattle.rx_syntax.specs.declared.token.TokenKind.{TokenKind}
 use Rattle.rx_syntax.specs.declared.token.TokenKind.TheVariants.{Word, Number, Mark}
 use Rattle.rx_program.specs.declared.package.Written.{Written}
 use Rattle.rx_program.specs.declared.package.Declaration.{Declaration}
 use Rattle.rx_program.specs.declared.package.Declaration.TheVariants.{Unsigned, Message}
 use Rattle.rx_program.specs.declared.package.Package.{Package}
+
+-- what the tokens are, without their places
+abbrev pub kinds_of : List Token → List TokenKind
+kinds_of tokens = map (λ token. token.kind) tokens
 
 -- `NAME : NAME ;`
 abbrev pub field_tokens : Written → List TokenKind → List TokenKind
@@ -22,7 +27,7 @@ abbrev pub head_tokens : List ℕ → List TokenKind → List TokenKind
 head_tokens name rest = Word (codes "type") ∷ Word name ∷ Word (codes "is") ∷ rest
 
 -- `unsigned NUM ;`
-abbrev pub unsigned_tokens : ℕ → List TokenKind → List TokenKind
+abbrev pub unsigned_tokens : ℤ → List TokenKind → List TokenKind
 unsigned_tokens size rest = Word (codes "unsigned") ∷ Number size ∷ Mark Semicolon ∷ rest
 
 -- `end message ;`

@@ -1,7 +1,7 @@
 -- The words of a command: which commands there are, and what they name.
 -- IsOperand: a word that names something of a package; IsDecode: the words of `decode`; HaveNoForm: no command's.
 use Rattle.std.specs.Prelude.{◌≡◌, ◌==◌, not, Bool, ℕ, true, List, [], ◌∷◌, ◌++◌, codes}
-use Rattle.rx_syntax.specs.Names.{is_name}
+use Rattle.rx_program.specs.Names.{is_name}
 
 -- no `:`
 abbrev pub is_no_colon : ℕ → Bool

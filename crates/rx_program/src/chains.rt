@@ -1,15 +1,16 @@
 //! Which declarations may stand in a package, and the chain of fields that a message's declaration is.
 ghost use Rattle.std.specs.Prelude.{◌≡◌, ◌↔◌, ℕ, List, length, ◌≤◌, IfOk, IfSome, IfNone, IsTrue, All};
 ghost use Rattle.std.specs.List.{list_any};
-ghost use Rattle.rx_syntax.specs.Names.{is_same};
-ghost use Rattle.rx_graph.specs.declared.field.Field.{Field};
-ghost use Rattle.rx_graph.specs.Chain.{size_of};
+ghost use Rattle.rx_program.specs.Names.{is_same};
+ghost use Rattle.rx_program.specs.declared.chain.Field.{Field};
+ghost use Rattle.rx_program.specs.Chain.{size_of};
 ghost use Rattle.rx_program.specs.Chains.{name_of, is_new_type, is_new_field, is_size, size_of_type, AreFieldsOf, IsChain, IsDeclared, AreDeclared, IsMessage, Declares};
 ghost use Rattle.rx_program.specs.Decode.{AreDecodable, HasSize};
 
 use crate::package::{Declaration, Package, Written};
-use rx_graph::Field;
-use rx_syntax::{NoMemory, Word, is_name};
+use crate::chain::Field;
+use crate::names::is_name;
+use rx_syntax::{NoMemory, Word};
 use sqlite_items::Items;
 use std::alloc::Global;
 
@@ -29,7 +30,7 @@ fn has_type(earlier: &[Declaration], name: &Word) -> bool
 {
     earlier
         .iter()
-        .any(|declaration| name_of(declaration).is_same(name.as_str()))
+        .any(|declaration| name_of(declaration).is(name.as_str()))
 }
 
 // Whether a type may have this name after these declarations.
@@ -37,8 +38,8 @@ fn is_new_type(earlier: &[Declaration], name: &Word) -> bool
     ensures { result ≡ is_new_type earlier.now name.now }
 {
     let named = is_name(name.as_str().as_bytes());
-    let boolean = name.is_same("Boolean");
-    let opaque = name.is_same("Opaque");
+    let boolean = name.is("Boolean");
+    let opaque = name.is("Opaque");
     let taken = has_type(earlier, name);
     named && !boolean && !opaque && !taken
 }
@@ -49,7 +50,7 @@ fn has_field(earlier: &[Written], name: &Word) -> bool
 {
     earlier
         .iter()
-        .any(|other| other.name.is_same(name.as_str()))
+        .any(|other| other.name.is(name.as_str()))
 }
 
 // Whether a field may stand after these ones.
@@ -58,13 +59,13 @@ fn is_new_field(earlier: &[Written], field: &Written) -> bool
 {
     let named = is_name(field.name.as_str().as_bytes());
     let typed = is_name(field.kind.as_str().as_bytes());
-    let reserved = field.name.is_same("Message");
+    let reserved = field.name.is("Message");
     let taken = has_field(earlier, &field.name);
     named && typed && !reserved && !taken
 }
 
 // Whether an unsigned type may have this size in bits.
-fn is_size(size: u64) -> bool
+fn is_size(size: i128) -> bool
     ensures { result ≡ is_size size }
 {
     size >= 1 && size <= 63
@@ -77,7 +78,7 @@ fn size_of_type(types: &[Declaration], name: &Word) -> Option<u8>
 {
     for declaration in types {
         if let Declaration::Unsigned(other, size) = declaration {
-            if other.is_same(name.as_str()) {
+            if other.is(name.as_str()) {
                 if is_size(*size) {
                     return Some(*size as u8);
                 }
@@ -197,7 +198,7 @@ fn message_of(
     let Declaration::Message(other, written) = declaration else {
         return Ok(None);
     };
-    if !other.is_same(name.as_str()) {
+    if !other.is(name.as_str()) {
         return Ok(None);
     }
     chain_of(alloc, earlier, written.as_slice())

@@ -5,7 +5,7 @@ ghost use Rattle.rx_program.specs.Decode.{AreDecodable, DecodesTo};
 use crate::answer::{Decoding, Member};
 use crate::order::in_order;
 use rx_bits::get;
-use rx_graph::Field;
+use crate::chain::Field;
 use rx_syntax::NoMemory;
 use sqlite_items::Items;
 use std::alloc::Global;

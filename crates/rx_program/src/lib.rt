@@ -3,9 +3,11 @@
 
 mod adapters;
 mod answer;
+mod chain;
 mod chains;
 mod decode;
 pub mod laws;
+mod names;
 mod order;
 mod package;
 mod print;

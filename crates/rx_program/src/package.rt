@@ -13,7 +13,7 @@ pub struct Written {
 #[derive(Debug, Drop)]
 pub enum Declaration {
     /// An unsigned type, with its size in bits.
-    Unsigned(Word, u64),
+    Unsigned(Word, i128),
     Message(Word, Items<Written>),
 }
 

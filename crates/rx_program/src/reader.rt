@@ -1,5 +1,5 @@
 //! Reads the tokens of a package.
-ghost use Rattle.std.specs.Prelude.{◌≡◌, ℕ, List, [], ◌∷◌, ◌++◌, IfOk, IfSome, IfNone};
+ghost use Rattle.std.specs.Prelude.{◌≡◌, ◌↔◌, ℕ, ℤ, List, [], ◌∷◌, ◌++◌, IfOk, IfSome, IfNone, IsTrue};
 ghost use Rattle.rx_syntax.specs.declared.token.TokenKind.{TokenKind};
 ghost use Rattle.rx_program.specs.declared.package.Written.{Written};
 ghost use Rattle.rx_program.specs.declared.package.Declaration.{Declaration};
@@ -11,13 +11,20 @@ use rx_syntax::{Mark, NoMemory, TokenKind, Word};
 use sqlite_items::Items;
 use std::alloc::Global;
 
+// Whether the word is written just so.
+fn is_text(word: &Word, text: &str) -> bool
+    ensures { IsTrue result ↔ (word.now ≡ text.now) }
+{
+    word.is_written(text)
+}
+
 // The tokens after this word.
 fn after_word<'a>(tokens: &'a [TokenKind], word: &str) -> Option<&'a [TokenKind]>
     ensures some { IfSome result (λ rest. tokens.now ≡ TokenKind.Word word.now ∷ rest.now) }
     ensures none { IfNone result ((rest : List TokenKind) → tokens.now ≡ TokenKind.Word word.now ∷ rest → ⊥) }
 {
     match tokens {
-        [TokenKind::Word(first), rest @ ..] => { if first.is(word) { Some(rest) } else { None } }
+        [TokenKind::Word(first), rest @ ..] => { if is_text(first, word) { Some(rest) } else { None } }
         _ => None,
     }
 }
@@ -45,9 +52,9 @@ fn after_mark<'a>(tokens: &'a [TokenKind], mark: Mark) -> Option<&'a [TokenKind]
 }
 
 // A number, and the tokens after it.
-fn any_number<'a>(tokens: &'a [TokenKind]) -> Option<(u64, &'a [TokenKind])>
+fn any_number<'a>(tokens: &'a [TokenKind]) -> Option<(i128, &'a [TokenKind])>
     ensures some { IfSome result (λ found. tokens.now ≡ TokenKind.Number found.0 ∷ found.1.now) }
-    ensures none { IfNone result ((number : ℕ) (rest : List TokenKind) → tokens.now ≡ TokenKind.Number number ∷ rest → ⊥) }
+    ensures none { IfNone result ((number : ℤ) (rest : List TokenKind) → tokens.now ≡ TokenKind.Number number ∷ rest → ⊥) }
 {
     match tokens {
         [TokenKind::Number(first), rest @ ..] => Some((*first, rest)),
@@ -74,9 +81,9 @@ fn read_head<'a>(tokens: &'a [TokenKind]) -> Option<(&'a Word, &'a [TokenKind])>
 }
 
 // The size of an unsigned type, and the tokens after its declaration.
-fn read_unsigned<'a>(tokens: &'a [TokenKind]) -> Option<(u64, &'a [TokenKind])>
+fn read_unsigned<'a>(tokens: &'a [TokenKind]) -> Option<(i128, &'a [TokenKind])>
     ensures some { IfSome result (λ found. tokens.now ≡ unsigned_tokens found.0 found.1.now) }
-    ensures none { IfNone result ((size : ℕ) (rest : List TokenKind) → tokens.now ≡ unsigned_tokens size rest → ⊥) }
+    ensures none { IfNone result ((size : ℤ) (rest : List TokenKind) → tokens.now ≡ unsigned_tokens size rest → ⊥) }
 {
     let (size, rest) = any_number(after_word(tokens, "unsigned")?)?;
     Some((size, after_mark(rest, Mark::Semicolon)?))

@@ -4,15 +4,17 @@ ghost use Rattle.rx_io.specs.Faults.{HasRisen};
 ghost use Rattle.rx_io.specs.Shelf.{SameTexts};
 ghost use Rattle.rx_program.specs.declared.package.Package.{Package};
 ghost use Rattle.rx_program.specs.Chains.{IsNamed, IsWellFormed, IsPackage};
+ghost use Rattle.rx_program.specs.Package.{kinds_of};
 ghost use Rattle.rx_program.specs.Supply.{IsRead, IsSupplied, IsDecodable};
 
 use crate::chains::{are_declared, find_message};
 use crate::package::Package;
 use crate::reader::read_package;
 use crate::words::Operand;
-use rx_graph::Field;
+use crate::chain::Field;
 use rx_io::{Fetched, Shelf, ShelfFault};
-use rx_syntax::{LexFault, NoMemory, Word, is_name, lex};
+use crate::names::is_name;
+use rx_syntax::{LexFault, NoMemory, TokenKind, Tokens, Word, lex};
 use sqlite_items::Items;
 use std::alloc::Global;
 
@@ -32,7 +34,7 @@ fn is_named(found: &Word, name: &Word) -> bool
     ensures { IsTrue result ↔ IsNamed found.now name.now }
 {
     let is_name = is_name(found.as_str().as_bytes());
-    let is_same = found.is_same(name.as_str());
+    let is_same = found.is(name.as_str());
     is_name && is_same
 }
 
@@ -49,6 +51,30 @@ fn is_well_formed(alloc: Global, found: &Package, name: &Word) -> Result<bool, N
     Ok(are_declared(alloc, found.declarations.as_slice())?)
 }
 
+// Whether there was no memory for the tokens.
+fn is_no_memory(fault: LexFault) -> bool
+    ensures { IsTrue result ↔ (fault ≡ LexFault.NoMemory) }
+{
+    match fault {
+        LexFault::NoMemory => true,
+        LexFault::BadByte(_) => false,
+        LexFault::BadNumber(_) => false,
+        LexFault::BadName(_) => false,
+        LexFault::TextLimit(_) => false,
+    }
+}
+
+// What the tokens are, without their places.
+fn kinds_of(alloc: Global, tokens: Tokens) -> Result<Vec<TokenKind>, NoMemory>
+    ensures { IfOk result (λ kinds. kinds.items ≡ kinds_of tokens.items.items) }
+{
+    let mut kinds = Vec::with_capacity(alloc, tokens.items.len())?;
+    for token in tokens.items {
+        kinds.push(token.kind)?;
+    }
+    Ok(kinds)
+}
+
 // The package of this name that a text is.
 fn package_of(alloc: Global, text: &[u8], name: &Word) -> Result<Option<Package>, NoMemory>
     requires { length text.now ≤ 1048576 }
@@ -57,10 +83,15 @@ fn package_of(alloc: Global, text: &[u8], name: &Word) -> Result<Option<Package>
 {
     let tokens = match lex(alloc, text) {
         Ok(tokens) => tokens,
-        Err(LexFault::Unlexed) => return Ok(None),
-        Err(LexFault::NoMemory) => return Err(NoMemory),
+        Err(fault) => {
+            if is_no_memory(fault) {
+                return Err(NoMemory);
+            }
+            return Ok(None);
+        }
     };
-    let Some(found) = read_package(alloc, tokens.as_slice())? else {
+    let kinds = kinds_of(alloc, tokens)?;
+    let Some(found) = read_package(alloc, kinds.as_slice())? else {
         return Ok(None);
     };
     if !is_well_formed(alloc, &found, name)? {

@@ -15,7 +15,7 @@ use crate::print::print;
 use crate::status::Status;
 use crate::supply::{Supplied, supply};
 use crate::words::{Operand, read_words};
-use rx_graph::Field;
+use crate::chain::Field;
 use rx_io::{ReadFault, Shelf, Sink, Source, read_all};
 use rx_syntax::NoMemory;
 use std::alloc::Global;

@@ -3,7 +3,8 @@ ghost use Rattle.std.specs.Prelude.{◌≡◌, ℕ, List, IfOk, IfSome, IfNone, 
 ghost use Rattle.std.specs.List.{prefix_len};
 ghost use Rattle.rx_program.specs.Words.{is_no_colon, IsOperand, IsDecode, HaveNoForm};
 
-use rx_syntax::{NoMemory, Word, is_name};
+use crate::names::{is_name, word_of};
+use rx_syntax::{NoMemory, Word};
 use std::alloc::Global;
 
 /// A message of a package.
@@ -34,8 +35,8 @@ fn operand_of(alloc: Global, word: &[u8]) -> Result<Option<Operand>, NoMemory>
         return Ok(None);
     }
     Ok(Some(Operand {
-        name: Word::make(alloc, name)?,
-        message: Word::make(alloc, message)?,
+        name: word_of(alloc, name)?,
+        message: word_of(alloc, message)?,
     }))
 }
 

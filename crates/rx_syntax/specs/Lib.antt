@@ -1,3 +1,5 @@
 pub mod Bytes
-pub mod Names
-pub mod Tokens
+pub mod Laws
+pub mod Marks
+pub mod Numbers
+pub mod Text

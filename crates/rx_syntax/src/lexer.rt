@@ -1,166 +1,84 @@
-//! Cuts a text into tokens.
-ghost use Rattle.std.specs.Prelude.{◌≡◌, ℕ, ◌++◌, ◌∷◌, [], OnOk, ◌<◌, ◌≤◌, length, take, Some, None, IfOk, IfSome, IfNone, IsErrOf, if◌then◌else◌, true, false};
-ghost use Rattle.std.specs.List.{prefix_len, list_all};
-ghost use Rattle.rx_syntax.specs.Bytes.{is_white, is_letter, is_digit, is_word_byte, is_line_byte};
-ghost use Rattle.rx_syntax.specs.Tokens.{is_number, decimal, extra, comment, lexeme_of, tokens_of};
+//! The lexer: cuts a text into pieces from the front, and keeps the tokens with their places. It goes over the text once.
 
-use crate::names::is_joined_run;
-use crate::{Lexeme, Mark, NoMemory, TokenKind, Word};
+ghost use Rattle.std.specs.Prelude.{◌≡◌, ◌+◌, ◌≤◌, ◌<◌, ◌++◌, ◌∷◌, [], length, OnOk, IfOk, IfErr, ◌⊎◌};
+ghost use Rattle.rx_syntax.specs.Text.{place_after, tokens_of, token_limit, AreTokens, IsFault, IsTooMany};
+
+use crate::piece::first_piece;
+use crate::{LexFault, NoMemory, Place, Token, TokenKind, Tokens};
 use std::alloc::Global;
 
-/// Why a text has no tokens.
-#[derive(Clone, Copy, Debug, PartialEq, Eq)]
-pub enum LexFault {
-    Unlexed,
-    NoMemory,
-}
+/// How many tokens a text may have.
+const TOKEN_LIMIT: usize = 262144;
 
-impl From<NoMemory> for LexFault {
-    ghost use Rattle.std.specs.Prelude.{◌≡◌};
-    ghost use Rattle.rx_syntax.specs.declared.lexer.LexFault.TheVariants.{NoMemory};
-
-    ghost from_gives = { λ _ e. e ≡ NoMemory };
-
-    fn from(_: NoMemory) -> Self {
-        LexFault::NoMemory
-    }
-}
-
-fn is_white(byte: u8) -> bool
-    ensures { result ≡ is_white byte }
+/// The place behind some bytes.
+fn place_after(place: Place, bytes: &[u8]) -> Place
+    requires line { place.line + length bytes.now < 4294967296 }
+    requires column { place.column + length bytes.now < 4294967295 }
+    ensures { result ≡ place_after place bytes.now }
 {
-    byte == 9 || byte == 10 || byte == 13 || byte == 32
-}
-
-pub fn is_letter(byte: u8) -> bool
-    ensures { result ≡ is_letter byte }
-{
-    (byte >= 65 && byte <= 90) || (byte >= 97 && byte <= 122)
-}
-
-fn is_digit(byte: u8) -> bool
-    ensures { result ≡ is_digit byte }
-{
-    byte >= 48 && byte <= 57
-}
-
-pub fn is_word_byte(byte: u8) -> bool
-    ensures { result ≡ is_word_byte byte }
-{
-    is_letter(byte) || is_digit(byte) || byte == 95
-}
-
-fn is_line_byte(byte: u8) -> bool
-    ensures { result ≡ is_line_byte byte }
-{
-    byte != 10
-}
-
-// How many bytes at the front are of a word.
-fn word_length(text: &[u8]) -> usize
-    requires { length text.now ≤ 1048576 }
-    ensures length { result ≡ prefix_len is_word_byte text.now }
-    ensures within { result ≤ length text.now }
-{
-    text.iter().take_while(|byte| is_word_byte(**byte)).count()
-}
-
-// How many bytes at the front are of a comment.
-fn comment_length(text: &[u8]) -> usize
-    requires { length text.now ≤ 1048576 }
-    ensures length { result ≡ prefix_len is_line_byte text.now }
-    ensures within { result ≤ length text.now }
-{
-    text.iter().take_while(|byte| is_line_byte(**byte)).count()
-}
-
-// The number that a run of bytes is, if it is one.
-fn number_of(run: &[u8]) -> Option<u64>
-    ensures some { IfSome result (λ n. (is_number run.now ≡ true) × (n ≡ decimal run.now)) }
-    ensures none { IfNone result (is_number run.now ≡ false) }
-{
-    let mut number = 0u64;
-    for byte in run {
-        if !is_digit(*byte) {
-            return None;
-        }
-        number = number.checked_mul(10)?.checked_add((*byte - 48) as u64)?;
-    }
-    Some(number)
-}
-
-// What begins a text.
-fn lexeme(alloc: Global, text: &[u8]) -> Result<Lexeme, NoMemory>
-    requires some { 0 < length text.now }
-    requires limit { length text.now ≤ 1048576 }
-    ensures lexeme { IfOk result (λ lexeme. lexeme ≡ lexeme_of text.now) }
-    ensures within { IfOk result (λ lexeme. extra lexeme < length text.now) }
-{
-    let byte = text[0];
-    let rest = &text[1..];
-    if is_white(byte) {
-        return Ok(Lexeme::Blank(0));
-    }
-    if is_letter(byte) {
-        let more = word_length(rest);
-        let run = &text[..1 + more];
-        if is_joined_run(run) {
-            return Ok(Lexeme::Token(TokenKind::Word(Word::make(alloc, run)?), more));
-        }
-        return Ok(Lexeme::Bad);
-    }
-    if is_digit(byte) {
-        let more = word_length(rest);
-        match number_of(&text[..1 + more]) {
-            Some(number) => return Ok(Lexeme::Token(TokenKind::Number(number), more)),
-            None => return Ok(Lexeme::Bad),
-        }
-    }
-    Ok(match byte {
-        58 => Lexeme::Token(TokenKind::Mark(Mark::Colon), 0),
-        59 => Lexeme::Token(TokenKind::Mark(Mark::Semicolon), 0),
-        45 => comment(rest),
-        _ => Lexeme::Bad,
-    })
-}
-
-// What a `-` before this text begins.
-fn comment(text: &[u8]) -> Lexeme
-    requires { length text.now ≤ 1048576 }
-    ensures lexeme { result ≡ comment text.now }
-    ensures within { extra result ≤ length text.now }
-{
-    match text {
-        [45, rest @ ..] => Lexeme::Blank(1 + comment_length(rest)),
-        _ => Lexeme::Bad,
-    }
-}
-
-/// The tokens of a text.
-pub fn lex(alloc: Global, text: &[u8]) -> Result<Vec<TokenKind>, LexFault>
-    requires { length text.now ≤ 1048576 }
-    ensures tokens { IfOk result (λ tokens. tokens_of text.now ≡ Some tokens.items) }
-    ensures unlexed { IsErrOf result LexFault.Unlexed → tokens_of text.now ≡ None }
-{
-    let mut tokens = Vec::new(alloc);
-    let mut rest = text;
-    while !rest.is_empty() {
-        match lexeme(alloc, rest)? {
-            Lexeme::Blank(more) => rest = &rest[1 + more..],
-            Lexeme::Token(kind, more) => {
-                push(&mut tokens, kind)?;
-                rest = &rest[1 + more..];
+    let mut place = place;
+    for byte in bytes {
+        place = if *byte == 10 {
+            Place {
+                line: place.line + 1,
+                column: 1,
             }
-            Lexeme::Bad => return Err(LexFault::Unlexed),
-        }
+        } else {
+            Place {
+                line: place.line,
+                column: place.column + 1,
+            }
+        };
     }
-    Ok(tokens)
+    place
 }
 
-// Adds a token.
-fn push(tokens: &mut Vec<TokenKind>, kind: TokenKind) -> Result<(), NoMemory>
-    ensures { OnOk result (tokens.new.items ≡ tokens.old.items ++ kind ∷ []) }
+/// Adds a token at the end.
+fn push(items: &mut Vec<Token>, token: Token) -> Result<(), NoMemory>
+    ensures { OnOk result (items.new.items ≡ items.old.items ++ token ∷ []) }
 {
-    tokens.push(kind)?;
+    items.push(token)?;
     Ok(())
+}
+
+/// Adds the token of a piece, if it is one and there is room for it.
+fn push_token(
+    items: &mut Vec<Token>,
+    token: Option<TokenKind>,
+    place: Place,
+) -> Result<(), LexFault>
+    requires { length items.old.items ≤ token_limit }
+    ensures tokens { OnOk result (items.new.items ≡ items.old.items ++ tokens_of place token) }
+    ensures few { OnOk result (length items.new.items ≤ token_limit) }
+    ensures fault { IfErr result (λ e. (e ≡ LexFault.NoMemory) ⊎ IsTooMany items.old.items token place e) }
+{
+    let Some(kind) = token else {
+        return Ok(());
+    };
+    if items.len() == TOKEN_LIMIT {
+        return Err(LexFault::TextLimit(place));
+    }
+    push(items, Token { kind, place })?;
+    Ok(())
+}
+
+/// The tokens of a text of at most 1,048,576 bytes, or its first fault.
+///
+/// `Range 16#F#` has a word and a number; `range 16#G#` has BadNumber at line 1, column 7.
+pub fn lex(alloc: Global, text: &[u8]) -> Result<Tokens, LexFault>
+    requires { length text.now ≤ 1048576 }
+    ensures tokens { IfOk result (λ tokens. AreTokens text.now tokens.items.items tokens.end) }
+    ensures fault { IfErr result (λ e. (e ≡ LexFault.NoMemory) ⊎ IsFault text.now e) }
+{
+    let mut items = Vec::new(alloc);
+    let mut rest = text;
+    let mut place = Place { line: 1, column: 1 };
+    'pieces: while !rest.is_empty() {
+        let piece = first_piece(alloc, rest, place)?;
+        let (run, behind) = rest.split_at(piece.len);
+        push_token(&mut items, piece.token, place)?;
+        place = place_after(place, run);
+        rest = behind;
+    }
+    Ok(Tokens { items, end: place })
 }

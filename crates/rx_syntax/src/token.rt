@@ -1,27 +1,32 @@
-//! Tokens, and what else a text has.
-use crate::Word;
+//! Tokens and their places.
 
-/// A mark.
+use crate::{Mark, Word};
+
+/// A place in a text: the line and the column in bytes, both counted from 1.
 #[derive(Clone, Copy, Debug, PartialEq, Eq)]
-pub enum Mark {
-    Colon,
-    Semicolon,
+pub struct Place {
+    pub line: u32,
+    pub column: u32,
 }
 
-/// What a token is.
+/// What a token is. A reserved word is a word.
 #[derive(Debug, Drop)]
 pub enum TokenKind {
     Word(Word),
-    Number(u64),
+    Number(i128),
     Mark(Mark),
 }
 
-/// What begins at a byte, with the number of bytes that follow it there.
+/// A token, at the place of its first byte.
 #[derive(Debug, Drop)]
-pub enum Lexeme {
-    /// White space or a comment.
-    Blank(usize),
-    Token(TokenKind, usize),
-    /// Nothing of the language.
-    Bad,
+pub struct Token {
+    pub kind: TokenKind,
+    pub place: Place,
+}
+
+/// The tokens of a text, and the place behind its last byte.
+#[derive(Debug, Drop)]
+pub struct Tokens {
+    pub items: Vec<Token>,
+    pub end: Place,
 }

@@ -1,4 +1,5 @@
-//! Words: names and reserved words, as they are written.
+//! Words: ASCII text that is shown as it was written.
+
 use std::alloc::{AllocError, AllocFailed, Global};
 use std::marker::Model;
 
@@ -18,44 +19,49 @@ impl<T: Drop> From<AllocFailed<T>> for NoMemory {
     }
 }
 
-/// A name or a reserved word: letters, digits and `_`, seen by contracts as its bytes.
+/// A name or a reserved word, as it is written. Contracts see the list of its bytes.
 #[derive(Debug, Drop)]
 pub struct Word {
     text: String,
 }
 
 impl Model for Word {
-    ghost use Rattle.std.specs.Prelude.{◌≡◌, ℕ, List, true, string_bytes};
-    ghost use Rattle.std.specs.List.{list_all};
-    ghost use Rattle.rx_syntax.specs.Bytes.{is_word_byte};
+    ghost use Rattle.std.specs.Prelude.{ℕ, List, string_bytes};
+    ghost use Rattle.std.specs.Str.{IsAscii};
 
     ghost Value = { List ℕ };
 
     ghost view = { λ word. string_bytes word.text };
 
-    ghost invariant = { λ word. list_all is_word_byte (string_bytes word.text) ≡ true };
+    ghost invariant = { λ word. IsAscii (string_bytes word.text) };
 }
 
 impl Word {
-    ghost use Rattle.std.specs.Prelude.{◌≡◌, ◌↔◌, true, IsTrue, IfOk};
-    ghost use Rattle.std.specs.List.{list_all};
-    ghost use Rattle.rx_syntax.specs.Bytes.{is_word_byte};
-    ghost use Rattle.rx_syntax.specs.Names.{is_same};
+    ghost use Rattle.std.specs.Prelude.{◌≡◌, IfOk};
+    ghost use Rattle.std.specs.Str.{IsAscii, bytes_eq, str_eq_ignore_ascii_case};
+
+    /// The word of this text.
+    pub fn make(alloc: Global, text: &str) -> Result<Word, NoMemory>
+        requires { IsAscii text.now }
+        ensures { IfOk result (λ word. word ≡ text.now) }
+    {
+        Ok(Word {
+            text: String::from_str(alloc, text)?,
+        })
+    }
 
     /// The word of these bytes.
-    pub fn make(alloc: Global, bytes: &[u8]) -> Result<Word, NoMemory>
-        requires { list_all is_word_byte bytes.now ≡ true }
+    pub(crate) fn from_bytes(alloc: Global, bytes: &[u8]) -> Result<Word, NoMemory>
+        requires { IsAscii bytes.now }
         ensures { IfOk result (λ word. word ≡ bytes.now) }
     {
         match str::from_utf8(bytes) {
-            Ok(text) => Ok(Word {
-                text: String::from_str(alloc, text)?,
-            }),
+            Ok(text) => Word::make(alloc, text),
             Err(_) => unreachable!(),
         }
     }
 
-    /// The word once more.
+    /// A second word with the same text.
     pub fn copy(&self, alloc: Global) -> Result<Word, NoMemory>
         ensures { IfOk result (λ word. word ≡ self.now) }
     {
@@ -64,24 +70,31 @@ impl Word {
         })
     }
 
-    /// The word as text.
+    /// The text of the word.
     pub fn as_str(&self) -> &str
         ensures { result.now ≡ self.now }
     {
         self.text.as_str()
     }
 
-    /// Whether it is this text.
-    pub fn is(&self, text: &str) -> bool
-        ensures { IsTrue result ↔ (self.now ≡ text.now) }
+    /// Whether it is the same word, but for ASCII case.
+    pub fn same(&self, other: &Word) -> bool
+        ensures { result ≡ str_eq_ignore_ascii_case self.now other.now }
     {
-        self.text.as_str() == text
+        self.is(other.as_str())
     }
 
-    /// Whether it is the same word in whatever case.
-    pub fn is_same(&self, other: &str) -> bool
-        ensures { result ≡ is_same self.now other.now }
+    /// Whether it is this text, but for ASCII case.
+    pub fn is(&self, text: &str) -> bool
+        ensures { result ≡ str_eq_ignore_ascii_case self.now text.now }
     {
-        self.text.as_str().eq_ignore_ascii_case(other)
+        self.text.as_str().eq_ignore_ascii_case(text)
+    }
+
+    /// Whether it is written just so.
+    pub fn is_written(&self, text: &str) -> bool
+        ensures { result ≡ bytes_eq self.now text.now }
+    {
+        self.text.as_bytes() == text.as_bytes()
     }
 }

@@ -1,5 +1,5 @@
 use Rattle.std.proofs.Common.{◌≡◌, ◌%◌, ap, sym, ◌∙◌, arith}
-use Rattle.rx_graph.specs.Chain.{size_of}
+use Rattle.rx_program.specs.Chain.{size_of}
 use Rattle.rx_program.proofs.DeclaredLemmas.{map-Some-same}
 use Rattle.rx_program.proofs.chains.chain_of.Goals as goal
 

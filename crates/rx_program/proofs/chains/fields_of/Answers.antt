@@ -2,7 +2,7 @@ use Rattle.std.proofs.Common.{◌≡◌, ◌++◌, ◌∷◌, [], take, true, So
 use Rattle.std.specs.Prelude.{slice_get}
 use Rattle.std.proofs.lemmas.Option.{slice_get_read}
 use Rattle.std.proofs.lemmas.List.Elements.{All-push}
-use Rattle.rx_graph.specs.declared.field.Field.{Field}
+use Rattle.rx_program.specs.declared.chain.Field.{Field}
 use Rattle.rx_program.specs.declared.package.Written.{Written}
 use Rattle.rx_program.specs.Chains.{field_of, size_of_type, is_new_field}
 use Rattle.rx_program.specs.Decode.{HasSize}

@@ -1,6 +1,6 @@
 use Rattle.std.proofs.Common.{◌≡◌, ℕ, ◌<◌, List, take, Some}
 use Rattle.std.specs.Prelude.{slice_get}
-use Rattle.rx_graph.specs.declared.field.Field.{Field}
+use Rattle.rx_program.specs.declared.chain.Field.{Field}
 use Rattle.rx_program.specs.declared.package.Declaration.{Declaration}
 use Rattle.rx_program.specs.Chains.{IsMessage}
 use Rattle.rx_program.proofs.chains.find_message.Given as goal

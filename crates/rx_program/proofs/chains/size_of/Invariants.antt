@@ -1,5 +1,5 @@
 use Rattle.std.proofs.Common.{◌≡◌, ◌*◌, ◌≤◌, take}
-use Rattle.rx_graph.specs.Chain.{size_of}
+use Rattle.rx_program.specs.Chain.{size_of}
 use Rattle.rx_program.proofs.chains.size_of.Given as goal
 
 -- the sizes so far

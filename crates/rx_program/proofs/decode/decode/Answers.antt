@@ -1,7 +1,7 @@
 use Rattle.std.proofs.Common.{◌≡◌, ◌+◌, ◌*◌, ◌<◌, ◌≤◌, length, take, ap, refl, ◌∙◌, arith}
 use mathlib.Core.List.{map-append}
 use Rattle.rx_model.specs.Bits.{number, place_bits}
-use Rattle.rx_graph.specs.Chain.{size_of}
+use Rattle.rx_program.specs.Chain.{size_of}
 use Rattle.rx_program.proofs.ChainLemmas.{size_of-push, values-next, take_field, short_at}
 use Rattle.rx_program.proofs.decode.decode.Goals as goal
 

@@ -1,8 +1,0 @@
-use rx_syntax::Word;
-
-/// A field of unsigned numbers of `size` bits.
-#[derive(Debug, Drop)]
-pub struct Field {
-    pub name: Word,
-    pub size: u8,
-}
