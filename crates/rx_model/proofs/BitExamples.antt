@@ -1,6 +1,6 @@
 -- Bits and numbers of some bytes, worked by hand.
-use Rattle.std.proofs.Common.{◌≡◌, [], ◌∷◌, refl}
-use Rattle.rx_model.specs.Bits.{bits, bit_at, number, place_bits, number_at}
+use Rattle.std.proofs.Common.{◌≡◌, true, [], ◌∷◌, refl}
+use Rattle.rx_model.specs.Bits.{bits, bit_at, number, place_bits, number_at, ordered}
 
 -- hexadecimal 4142 is 0100 0001, 0100 0010
 bits_of_4142 : bits (0x41 ∷ 0x42 ∷ []) ≡ 0 ∷ 1 ∷ 0 ∷ 0 ∷ 0 ∷ 0 ∷ 0 ∷ 1 ∷ 0 ∷ 1 ∷ 0 ∷ 0 ∷ 0 ∷ 0 ∷ 1 ∷ 0 ∷ []
@@ -19,3 +19,7 @@ twelve_bits_of_abcd = refl
 -- five bits from bit 6 on of hexadecimal 0380 are all ones but the last two
 across_bytes : number_at (0x03 ∷ 0x80 ∷ []) 6 5 ≡ 28
 across_bytes = refl
+
+-- hexadecimal 0102 of low order is hexadecimal 0201
+two_bytes_of_low_order : number (ordered true (place_bits 0 16 (0x01 ∷ 0x02 ∷ []))) ≡ 513
+two_bytes_of_low_order = refl

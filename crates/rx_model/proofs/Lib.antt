@@ -1,2 +1,4 @@
 pub mod BitLemmas
 pub mod BitExamples
+pub mod Ring
+pub mod Sums

@@ -1,6 +1,6 @@
 use Rattle.std.proofs.Common.{◌≡◌, ◌^◌, ◌<◌}
 use Rattle.rx_model.specs.Bits.{number, place_bits}
-use Rattle.rx_bits.proofs.reading.get.Given as goal
+use Rattle.rx_bits.proofs.reading.high_number.Given as goal
 
 -- the number of the bits so far
 abbrev pub invariant-loop-index : goal.invariant-loop-index

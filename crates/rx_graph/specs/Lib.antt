@@ -1,0 +1,9 @@
+pub mod Checks
+pub mod Cycles
+pub mod Elaborated
+pub mod Fits
+pub mod Graph
+pub mod Laws
+pub mod Onward
+pub mod Paths
+pub mod Stuck

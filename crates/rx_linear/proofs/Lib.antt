@@ -1,0 +1,10 @@
+pub mod Bounds
+pub mod Divisors
+pub mod Loops
+pub mod Soundness
+pub mod Joining
+pub mod Closing
+pub mod Cells
+pub mod Stacked
+pub mod Stacks
+pub mod Stacking

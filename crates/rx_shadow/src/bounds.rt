@@ -1,0 +1,157 @@
+// The unit bounds of variables.
+ghost use Rattle.std.specs.Prelude.{◌≡◌, ◌<◌, ◌^◌, ◌-ℤ◌, unsigned_abs, None, false, ◌⊎◌, length, IfSome, IsSomeAnd, Some, true, pos, negsuc, neg_ℤ, int_lt, option_map, map, ℤ, MatchOption};
+ghost use Rattle.std.specs.List.{All, Contains, filter};
+ghost use Rattle.std.specs.Ordering.{int_eq};
+ghost use Rattle.rx_linear.specs.Rows.{Narrow};
+ghost use Rattle.rx_linear.specs.Units.{is_unit_row};
+ghost use Rattle.rx_shadow.specs.Bounds.{greatest_of, raised, bounds_clash, fixed_value, width, is_narrower, narrowest};
+ghost use Rattle.rx_shadow.specs.Known.{rows_of, AllFit};
+ghost use Rattle.rx_shadow.specs.BoundRows.{AreBounds, LacksBound};
+ghost use Rattle.rx_shadow.specs.Derivations.{IsClosing};
+
+use crate::known::Known;
+use crate::rows::{is_less, is_unit_row};
+use rx_linear::Step;
+
+/// The one with the greater constant.
+fn greater<'a>(best: Option<&'a Known>, next: &'a Known) -> &'a Known
+    ensures value { result.now.row.least ≡ raised (option_map (λ k. k.now.row.least) best.entry) next.now.row.least }
+    ensures one { (result.now ≡ next.now) ⊎ IsSomeAnd best.entry (λ k. result.now ≡ k.now) }
+{
+    match best {
+        Some(known) if is_less(&next.row.least, &known.row.least) => known,
+        _ => next,
+    }
+}
+
+/// Of the unit rows with that coefficient of the variable, the one with the greatest constant.
+pub(crate) fn greatest_unit<'a>(
+    variable: usize,
+    number: &i128,
+    known: &'a [Known],
+) -> Option<&'a Known>
+    requires { All (λ k. variable < length k.row.coefficients) known.now }
+    ensures bound { option_map (λ k. k.now.row.least) result ≡ greatest_of (map (λ row. row.least) (filter (is_unit_row variable number.now) (rows_of known.now))) }
+    ensures among { IfSome result (λ k. Contains known.now k.now) }
+    ensures unit { IfSome result (λ k. is_unit_row variable number.now k.now.row ≡ true) }
+{
+    let mut greatest = None;
+    for next in known {
+        if is_unit_row(&next.row, variable, number) {
+            greatest = Some(greater(greatest, next));
+        }
+    }
+    greatest
+}
+
+/// The unit rows of the variable with the greatest lower and the least upper bound.
+pub(crate) fn bounds(variable: usize, known: &[Known]) -> Option<(&Known, &Known)>
+    requires { All (λ k. variable < length k.row.coefficients) known.now }
+    ensures { MatchOption result (LacksBound variable known.now) (λ pair. AreBounds variable known.now pair.0.now pair.1.now) }
+{
+    let low = greatest_unit(variable, &1, known)?;
+    let high = greatest_unit(variable, &-1, known)?;
+    Some((low, high))
+}
+
+/// Whether the lower bound exceeds the negation of the other constant.
+fn exceeds(low: &i128, high: &i128) -> bool
+    requires low_small { unsigned_abs low.now < 2 ^ 100 }
+    requires high_small { unsigned_abs high.now < 2 ^ 100 }
+    ensures { result ≡ int_lt (neg_ℤ high.now) low.now }
+{
+    -*high < *low
+}
+
+/// Whether the lower bound is the negation of the other constant.
+fn is_negation(low: &i128, high: &i128) -> bool
+    requires low_small { unsigned_abs low.now < 2 ^ 100 }
+    requires high_small { unsigned_abs high.now < 2 ^ 100 }
+    ensures { result ≡ int_eq low.now (neg_ℤ high.now) }
+{
+    *low == -*high
+}
+
+/// How far the negation of the other constant is above the lower bound.
+fn distance(low: &i128, high: &i128) -> i128
+    requires low_small { unsigned_abs low.now < 2 ^ 100 }
+    requires high_small { unsigned_abs high.now < 2 ^ 100 }
+    ensures { result ≡ neg_ℤ high.now -ℤ low.now }
+{
+    -*high - *low
+}
+
+/// The step that shows that the bounds of the variable clash.
+pub(crate) fn bounds_clash(variable: usize, variables: usize, known: &[Known]) -> Option<Step>
+    requires variable { variable < variables }
+    requires fit { AllFit variables known.now }
+    ensures { MatchOption result (bounds_clash variable (rows_of known.now) ≡ false) (λ step. (bounds_clash variable (rows_of known.now) ≡ true) × IsClosing known.now step) }
+{
+    let (low, high) = bounds(variable, known)?;
+    if exceeds(&low.row.least, &high.row.least) {
+        Some(Step::Combine {
+            left: low.number,
+            left_times: 1,
+            right: high.number,
+            right_times: 1,
+        })
+    } else {
+        None
+    }
+}
+
+/// The bound rows of the variable, where it is fixed.
+pub(crate) fn fixed_bounds(
+    variable: usize,
+    variables: usize,
+    known: &[Known],
+) -> Option<(&Known, &Known)>
+    requires variable { variable < variables }
+    requires fit { AllFit variables known.now }
+    ensures { MatchOption result (fixed_value variable (rows_of known.now) ≡ None) (λ pair. AreBounds variable known.now pair.0.now pair.1.now × (fixed_value variable (rows_of known.now) ≡ Some pair.0.now.row.least) × (pair.0.now.row.least ≡ neg_ℤ pair.1.now.row.least)) }
+{
+    let (low, high) = bounds(variable, known)?;
+    if is_negation(&low.row.least, &high.row.least) {
+        Some((low, high))
+    } else {
+        None
+    }
+}
+
+/// One less than the number of values of the variable between its bounds, or 0 where one is missing.
+fn width(variable: usize, variables: usize, known: &[Known]) -> i128
+    requires variable { variable < variables }
+    requires fit { AllFit variables known.now }
+    ensures { result ≡ width (rows_of known.now) variable }
+{
+    match bounds(variable, known) {
+        Some((low, high)) => distance(&low.row.least, &high.row.least),
+        None => 0,
+    }
+}
+
+/// Whether the first variable has two or more values, and the second fewer than two or more than the first.
+fn is_narrower(first: usize, second: usize, variables: usize, known: &[Known]) -> bool
+    requires first { first < variables }
+    requires second { second < variables }
+    requires fit { AllFit variables known.now }
+    ensures { result ≡ is_narrower (rows_of known.now) first second }
+{
+    let first_width = width(first, variables, known);
+    let second_width = width(second, variables, known);
+    first_width > 0 && (second_width <= 0 || first_width < second_width)
+}
+
+/// The variable with the fewest values of those with two or more, on a tie the least; 0 where there is none.
+pub(crate) fn narrowest(variables: usize, known: &[Known]) -> usize
+    requires { AllFit variables known.now }
+    ensures { result ≡ narrowest variables (rows_of known.now) }
+{
+    let mut best = 0;
+    for variable in 0..variables {
+        if is_narrower(variable, best, variables, known) {
+            best = variable;
+        }
+    }
+    best
+}

@@ -1,0 +1,10 @@
+pub mod Coefficients
+pub mod Domain
+pub mod Environment
+pub mod Kinds
+pub mod Laws
+pub mod Names
+pub mod Narrow
+pub mod Static
+pub mod Tree
+pub mod Value
