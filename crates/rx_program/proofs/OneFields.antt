@@ -15,7 +15,7 @@ use Rattle.rx_program.specs.declared.package.Declaration.TheVariants.{Unsigned, 
 use Rattle.rx_program.specs.declared.package.Package.{Package}
 use Rattle.rx_program.specs.Words.{is_no_colon, IsOperand, IsDecode}
 use Rattle.rx_syntax.proofs.Goes.{one_list}
-use Rattle.rx_program.specs.Package.{kinds_of, package_tokens}
+use Rattle.rx_program.specs.Package.{kinds_of}
 use Rattle.rx_program.specs.Chains.{name_of, is_new_type, is_new_field, AreNewFields, IsDeclared, AreDeclared, IsPackage, IsMessage, Declares}
 use Rattle.rx_program.proofs.WordLemmas.{stands_at}
 use Rattle.rx_program.proofs.PackageLemmas.{package_same}

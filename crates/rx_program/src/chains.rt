@@ -7,9 +7,9 @@ ghost use Rattle.rx_program.specs.Chain.{size_of};
 ghost use Rattle.rx_program.specs.Chains.{name_of, is_new_type, is_new_field, is_size, size_of_type, AreFieldsOf, IsChain, IsDeclared, AreDeclared, IsMessage, Declares};
 ghost use Rattle.rx_program.specs.Decode.{AreDecodable, HasSize};
 
-use crate::package::{Declaration, Package, Written};
 use crate::chain::Field;
 use crate::names::is_name;
+use crate::package::{Declaration, Package, Written};
 use rx_syntax::{NoMemory, Word};
 use sqlite_items::Items;
 use std::alloc::Global;
@@ -48,9 +48,7 @@ fn is_new_type(earlier: &[Declaration], name: &Word) -> bool
 fn has_field(earlier: &[Written], name: &Word) -> bool
     ensures { result ≡ list_any (λ other. is_same other.name name.now) earlier.now }
 {
-    earlier
-        .iter()
-        .any(|other| other.name.is(name.as_str()))
+    earlier.iter().any(|other| other.name.is(name.as_str()))
 }
 
 // Whether a field may stand after these ones.

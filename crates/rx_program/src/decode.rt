@@ -3,9 +3,9 @@ ghost use Rattle.std.specs.Prelude.{◌≤◌, length, IfOk};
 ghost use Rattle.rx_program.specs.Decode.{AreDecodable, DecodesTo};
 
 use crate::answer::{Decoding, Member};
+use crate::chain::Field;
 use crate::order::in_order;
 use rx_bits::get;
-use crate::chain::Field;
 use rx_syntax::NoMemory;
 use sqlite_items::Items;
 use std::alloc::Global;

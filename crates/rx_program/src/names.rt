@@ -10,9 +10,34 @@ use std::alloc::Global;
 
 /// The words that the grammar keeps for itself; one with a capital letter is a name.
 pub const RESERVED: [&str; 28] = [
-    "and", "begin", "end", "exception", "for", "generic", "goto", "if", "is", "machine", "message", "mod", "new",
-    "not", "null", "of", "or", "package", "range", "sequence", "session", "state", "then", "transition", "type",
-    "unsigned", "use", "with",
+    "and",
+    "begin",
+    "end",
+    "exception",
+    "for",
+    "generic",
+    "goto",
+    "if",
+    "is",
+    "machine",
+    "message",
+    "mod",
+    "new",
+    "not",
+    "null",
+    "of",
+    "or",
+    "package",
+    "range",
+    "sequence",
+    "session",
+    "state",
+    "then",
+    "transition",
+    "type",
+    "unsigned",
+    "use",
+    "with",
 ];
 
 // Whether all bytes are of words.

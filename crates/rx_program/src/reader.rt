@@ -24,7 +24,13 @@ fn after_word<'a>(tokens: &'a [TokenKind], word: &str) -> Option<&'a [TokenKind]
     ensures none { IfNone result ((rest : List TokenKind) → tokens.now ≡ TokenKind.Word word.now ∷ rest → ⊥) }
 {
     match tokens {
-        [TokenKind::Word(first), rest @ ..] => { if is_text(first, word) { Some(rest) } else { None } }
+        [TokenKind::Word(first), rest @ ..] => {
+            if is_text(first, word) {
+                Some(rest)
+            } else {
+                None
+            }
+        }
         _ => None,
     }
 }

@@ -7,13 +7,13 @@ ghost use Rattle.rx_program.specs.Chains.{IsNamed, IsWellFormed, IsPackage};
 ghost use Rattle.rx_program.specs.Package.{kinds_of};
 ghost use Rattle.rx_program.specs.Supply.{IsRead, IsSupplied, IsDecodable};
 
+use crate::chain::Field;
 use crate::chains::{are_declared, find_message};
+use crate::names::is_name;
 use crate::package::Package;
 use crate::reader::read_package;
 use crate::words::Operand;
-use crate::chain::Field;
 use rx_io::{Fetched, Shelf, ShelfFault};
-use crate::names::is_name;
 use rx_syntax::{LexFault, NoMemory, TokenKind, Tokens, Word, lex};
 use sqlite_items::Items;
 use std::alloc::Global;

@@ -10,12 +10,12 @@ ghost use Rattle.rx_program.specs.Answers.{Answers};
 ghost use Rattle.rx_program.specs.Outcome.{Outcome, MayRefuseWords, ReadsAll};
 
 use crate::answer::Answer;
+use crate::chain::Field;
 use crate::decode::decode;
 use crate::print::print;
 use crate::status::Status;
 use crate::supply::{Supplied, supply};
 use crate::words::{Operand, read_words};
-use crate::chain::Field;
 use rx_io::{ReadFault, Shelf, Sink, Source, read_all};
 use rx_syntax::NoMemory;
 use std::alloc::Global;

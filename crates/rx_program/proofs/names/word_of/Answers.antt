@@ -1,5 +1,3 @@
-use Rattle.std.proofs.Common.{◌≡◌, List, sym}
-use Rattle.std.specs.Str.{IsAscii}
 use Rattle.std.proofs.lemmas.Str.{IsUtf8-from_ascii}
 use Rattle.rx_program.proofs.WordLemmas.{name_ascii}
 use Rattle.rx_program.proofs.names.word_of.Goals as goal

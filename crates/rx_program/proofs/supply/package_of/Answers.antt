@@ -1,6 +1,6 @@
 use Rattle.std.proofs.Common.{◌≡◌, true, false, sym, subst, ◌∙◌}
 use Rattle.rx_program.specs.declared.package.Package.{Package}
-use Rattle.rx_program.specs.Package.{kinds_of, package_tokens}
+use Rattle.rx_program.specs.Package.{kinds_of}
 use Rattle.rx_program.specs.Chains.{IsWellFormed}
 use Rattle.rx_program.proofs.PackageLemmas.{package_same}
 use Rattle.rx_program.proofs.SpelledLemmas.{spelled_here, faulty_is_none}

@@ -1,8 +1,8 @@
-use Rattle.std.proofs.Common.{◌≡◌, ◌+◌, ◌-◌, ◌≤◌, true, length, get_or, take, drop, sym, ◌∙◌, arith}
+use Rattle.std.proofs.Common.{◌≡◌, ◌+◌, ◌≤◌, true, length, get_or, take, drop, sym, ◌∙◌, arith}
 use Rattle.std.proofs.lemmas.Grind.{common_steps}
 use Rattle.std.proofs.lemmas.List.{take_rest}
 use Rattle.rx_program.specs.Names.{is_name}
-use Rattle.rx_program.proofs.WordLemmas.{stands_at, parts_at, name_bytes}
+use Rattle.rx_program.proofs.WordLemmas.{stands_at, parts_at}
 use Rattle.rx_program.proofs.words.operand_of.Goals as goal
 
 pub returns-then-word-at-lt2-clause-none : goal.returns-then-word-at-lt2-clause-none
