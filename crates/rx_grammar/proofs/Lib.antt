@@ -1,0 +1,14 @@
+pub mod Ahead
+pub mod Chain
+pub mod Complete
+pub mod Exit
+pub mod Factor
+pub mod First
+pub mod Nodes
+pub mod Parts
+pub mod Second
+pub mod Sofar
+pub mod Steps
+pub mod ThenList
+pub mod Whole
+pub mod OneFault

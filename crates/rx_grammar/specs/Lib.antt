@@ -1,0 +1,10 @@
+pub mod First
+pub mod Grammar
+pub mod Laws
+pub mod Limits
+pub mod Part
+pub mod Reads
+pub mod Sentence
+pub mod Syntax
+pub mod Terminal
+pub mod Tokens
