@@ -1,0 +1,4 @@
+pub mod Queries
+pub mod Acceptance
+pub mod Room
+pub mod Open
