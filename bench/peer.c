@@ -1,0 +1,151 @@
+/* The elimination that rx_shadow::solve makes, in plain C without proofs: what one processor can do.
+ *
+ * Reads the systems of rows.py from standard input, solves each as often as the first word says, and prints what they
+ * came to, the steps (rows combined), and the processor time of one round in microseconds. It counts the points but
+ * does not work them out, and keeps no derivations. Built with -DVARIABLES=N for systems of at most N variables. */
+#include <stdio.h>
+#include <stdlib.h>
+#include <string.h>
+#include <time.h>
+
+#ifndef VARIABLES
+#define VARIABLES 192
+#endif
+
+enum { MOST = 1024, POINT = 0, CLOSED = 1, NOT_SIMPLE = 2 };
+typedef __int128 wide;
+struct row { wide least; long c[VARIABLES]; };
+struct system { int rows, full, clash; struct row row[MOST]; };
+
+static int nv;
+static long steps;
+static wide low[VARIABLES], high[VARIABLES];
+static char has_low[VARIABLES], has_high[VARIABLES], occurs[VARIABLES];
+
+static wide up(wide a, wide b) { wide q = a / b; return q * b < a ? q + 1 : q; }
+
+static long divisor(const struct row *r)
+{
+    long g = 0;
+    for (int v = 0; v < nv && g != 1; v++) { long a = labs(r->c[v]); while (a) { long t = g % a; g = a; a = t; } }
+    return g;
+}
+
+/* Tightens a row and joins it, where it is not there yet. */
+static void join(struct system *s, const struct row *given)
+{
+    struct row r = *given;
+    long g = divisor(&r);
+    if (!g) { if (r.least > 0) s->clash = 1; return; }
+    if (g > 1) { for (int v = 0; v < nv; v++) r.c[v] /= g; r.least = up(r.least, g); }
+    for (int i = 0; i < s->rows; i++)
+        if (s->row[i].least == r.least && !memcmp(s->row[i].c, r.c, (size_t)nv * sizeof *r.c)) return;
+    if (s->rows < MOST) s->row[s->rows++] = r; else s->full = 1;
+}
+
+/* Finds the bounds of each variable, and whether the rows clash. */
+static int clashes(const struct system *s)
+{
+    if (s->clash) return 1;
+    memset(has_low, 0, sizeof has_low); memset(has_high, 0, sizeof has_high); memset(occurs, 0, sizeof occurs);
+    for (int i = 0; i < s->rows; i++) {
+        int one = -1, count = 0;
+        for (int v = 0; v < nv; v++) if (s->row[i].c[v]) { one = v; count++; occurs[v] = 1; }
+        if (count != 1) continue;
+        wide k = s->row[i].least;
+        if (s->row[i].c[one] > 0) { if (!has_low[one] || k > low[one]) low[one] = k, has_low[one] = 1; }
+        else if (!has_high[one] || -k < high[one]) high[one] = -k, has_high[one] = 1;
+    }
+    for (int v = 0; v < nv; v++) if (has_low[v] && has_high[v] && low[v] > high[v]) return 1;
+    return 0;
+}
+
+static int fixed(int v) { return has_low[v] && has_high[v] && low[v] == high[v]; }
+
+static int exact(const struct system *s, int v)
+{
+    int wide_up = 0, wide_down = 0;
+    if (!occurs[v] || fixed(v)) return occurs[v];
+    for (int i = 0; i < s->rows; i++) { wide_up |= s->row[i].c[v] > 1; wide_down |= s->row[i].c[v] < -1; }
+    return !(wide_up && wide_down);
+}
+
+static void combine(struct system *to, const struct row *a, long x, const struct row *b, long y)
+{
+    struct row r;
+    for (int v = 0; v < nv; v++) r.c[v] = a->c[v] * x + b->c[v] * y;
+    r.least = a->least * x + b->least * y;
+    steps++;
+    join(to, &r);
+}
+
+static void put_value(struct system *to, const struct row *a, int v)
+{
+    struct row r = *a;
+    r.c[v] = 0; r.least -= (wide)a->c[v] * low[v];
+    steps++;
+    join(to, &r);
+}
+
+static void eliminate(const struct system *s, struct system *t, int v)
+{
+    t->rows = t->full = t->clash = 0;
+    for (int i = 0; i < s->rows; i++) if (!s->row[i].c[v]) t->row[t->rows++] = s->row[i];
+    for (int i = 0; i < s->rows; i++) {
+        const struct row *a = &s->row[i];
+        if (fixed(v)) { if (a->c[v]) put_value(t, a, v); continue; }
+        for (int j = 0; a->c[v] > 0 && j < s->rows && !t->full; j++)
+            if (s->row[j].c[v] < 0) combine(t, a, -s->row[j].c[v], &s->row[j], a->c[v]);
+    }
+}
+
+static int solve(const struct system *given)
+{
+    static struct system pool[2];
+    struct system *s = &pool[0], *t = &pool[1];
+    s->rows = s->full = s->clash = 0;
+    for (int i = 0; i < given->rows; i++) join(s, &given->row[i]);
+    for (;;) {
+        int v = nv - 1, any = 0;
+        if (clashes(s)) return CLOSED;
+        for (int u = 0; u < nv; u++) any |= occurs[u];
+        if (!any) return POINT;
+        while (v >= 0 && !exact(s, v)) v--;
+        if (v < 0) return NOT_SIMPLE;
+        eliminate(s, t, v);
+        if (t->full) return NOT_SIMPLE;
+        struct system *swap = s; s = t; t = swap;
+    }
+}
+
+static long number(void) { long v = 0; return scanf("%ld", &v) == 1 ? v : 0; }
+
+static void read_system(struct system *s)
+{
+    nv = (int)number();
+    s->rows = (int)number();
+    if (nv > VARIABLES || s->rows > MOST) { fprintf(stderr, "too large\n"); exit(2); }
+    for (int i = 0; i < s->rows; i++) {
+        for (int v = 0; v < nv; v++) s->row[i].c[v] = number();
+        s->row[i].least = number();
+    }
+    if (number() != 0) { fprintf(stderr, "a disjunction\n"); exit(2); }
+}
+
+int main(int count, char **words)
+{
+    static struct system s;
+    long answers[3] = {0, 0, 0}, rounds = count > 1 ? atol(words[1]) : 1;
+    clock_t spent = 0;
+    for (char q; scanf(" %c", &q) == 1 && q == 'q';) {
+        int answer = POINT;
+        read_system(&s);
+        clock_t start = clock();
+        for (long i = 0; i < rounds; i++) answer = solve(&s);
+        spent += clock() - start;
+        answers[answer]++;
+    }
+    printf("points %ld\nclosed %ld\nnot simple %ld\nsteps %ld\n", answers[POINT], answers[CLOSED], answers[NOT_SIMPLE], steps / rounds);
+    printf("walk us %.0f\n", (double)spent * 1e6 / CLOCKS_PER_SEC / (double)rounds);
+    return 0;
+}
