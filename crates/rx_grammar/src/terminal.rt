@@ -201,92 +201,50 @@ impl Quoted {
     }
 }
 
+// Every reserved word.
+const RESERVED: [&str; 28] = [
+    "and",
+    "begin",
+    "end",
+    "exception",
+    "for",
+    "generic",
+    "goto",
+    "if",
+    "is",
+    "machine",
+    "message",
+    "mod",
+    "new",
+    "not",
+    "null",
+    "of",
+    "or",
+    "package",
+    "range",
+    "sequence",
+    "session",
+    "state",
+    "then",
+    "transition",
+    "type",
+    "unsigned",
+    "use",
+    "with",
+];
+
+// Whether the word is written as one of these.
+fn is_among(words: &[&str], word: &Word) -> bool
+    ensures { result ≡ list_any (λ r. bytes_eq word.now r.now) words.now }
+{
+    words.iter().any(|reserved| word.is_written(reserved))
+}
+
 /// Whether a word is reserved.
 pub(crate) fn is_reserved(word: &Word) -> bool
     ensures { result ≡ list_any (λ r. bytes_eq word.now r) reserved }
 {
-    if word.is_written("and") {
-        return true;
-    }
-    if word.is_written("begin") {
-        return true;
-    }
-    if word.is_written("end") {
-        return true;
-    }
-    if word.is_written("exception") {
-        return true;
-    }
-    if word.is_written("for") {
-        return true;
-    }
-    if word.is_written("generic") {
-        return true;
-    }
-    if word.is_written("goto") {
-        return true;
-    }
-    if word.is_written("if") {
-        return true;
-    }
-    if word.is_written("is") {
-        return true;
-    }
-    if word.is_written("machine") {
-        return true;
-    }
-    if word.is_written("message") {
-        return true;
-    }
-    if word.is_written("mod") {
-        return true;
-    }
-    if word.is_written("new") {
-        return true;
-    }
-    if word.is_written("not") {
-        return true;
-    }
-    if word.is_written("null") {
-        return true;
-    }
-    if word.is_written("of") {
-        return true;
-    }
-    if word.is_written("or") {
-        return true;
-    }
-    if word.is_written("package") {
-        return true;
-    }
-    if word.is_written("range") {
-        return true;
-    }
-    if word.is_written("sequence") {
-        return true;
-    }
-    if word.is_written("session") {
-        return true;
-    }
-    if word.is_written("state") {
-        return true;
-    }
-    if word.is_written("then") {
-        return true;
-    }
-    if word.is_written("transition") {
-        return true;
-    }
-    if word.is_written("type") {
-        return true;
-    }
-    if word.is_written("unsigned") {
-        return true;
-    }
-    if word.is_written("use") {
-        return true;
-    }
-    word.is_written("with")
+    is_among(&RESERVED, word)
 }
 
 /// Whether a token is such a one.
