@@ -147,3 +147,57 @@ fn solves_large_numbers(rt: HostRuntime) -> Result<(), Fail> {
     assert!(rt; closes(&rt, rt.alloc(), 2, &odd)?);
     Ok(())
 }
+
+// The next state of a fixed row of numbers.
+fn next(state: u32) -> u32 {
+    state.wrapping_mul(1664525).wrapping_add(1013904223)
+}
+
+// A number from -3 to 3.
+fn small(state: u32) -> i32 {
+    ((state >> 16) % 7) as i32 - 3
+}
+
+fn holds(first: i32, second: i32, least: i32, x: i32, y: i32) -> bool {
+    first.wrapping_mul(x).wrapping_add(second.wrapping_mul(y)) >= least
+}
+
+// Whether both rows hold at some point with 0 <= x, y <= 3, by looking at all of them.
+fn has_point(rows: [i32; 6]) -> bool {
+    let [a, b, c, d, e, f] = rows;
+    for x in 0..4 {
+        for y in 0..4 {
+            if holds(a, b, c, x, y) {
+                if holds(d, e, f, x, y) {
+                    return true;
+                }
+            }
+        }
+    }
+    false
+}
+
+// 300 systems of two random rows over 0 <= x, y <= 3: a point is answered only where the search finds one, and
+// closing steps only where it finds none.
+#[test]
+fn agrees_with_a_search_of_the_box(rt: HostRuntime) -> Result<(), Fail> {
+    let mut state = 1u32;
+    for _ in 0..300 {
+        let mut rows = [0i32; 6];
+        for k in 0..6 {
+            state = next(state);
+            rows[k] = small(state);
+        }
+        let [a, b, c, d, e, f] = rows;
+        let cells = [
+            1, 0, 0, -1, 0, -3, 0, 1, 0, 0, -1, -3, a as i128, b as i128, c as i128, d as i128,
+            e as i128, f as i128,
+        ];
+        match answer(&rt, rt.alloc(), 2, &cells)? {
+            Solved::Point(_) => assert!(rt; has_point(rows)),
+            Solved::Closed(_) => assert!(rt; !has_point(rows)),
+            Solved::NotSimple(_) => {}
+        }
+    }
+    Ok(())
+}
