@@ -18,3 +18,4 @@ pub mod Gains
 pub mod Rounds
 pub mod Initial
 pub mod Bounded
+pub mod Numbered

@@ -3,9 +3,10 @@
 --   bounds_clash, fixed_value     no value is left between them, or one
 --   HasUnitRows, IsBounded        which variables have unit rows
 --   width, narrowest              one less than the number of values, and the variable with the fewest of two or more
-use Rattle.std.specs.Prelude.{◌≡◌, ◌<◌, ◌⊎◌, true, List, [], ◌∷◌, ℕ, zero, suc, Bool, false, cond, ◌&&◌, ◌||◌, ℤ, pos, negsuc, neg_ℤ, ◌-ℤ◌, int_lt, int_le, map, take, drop, ◌+◌, Option, Some, None}
+--   middle                        the middle of a variable's values
+use Rattle.std.specs.Prelude.{◌≡◌, ◌<◌, ◌⊎◌, true, List, [], ◌∷◌, ℕ, zero, suc, Bool, false, cond, ◌&&◌, ◌||◌, ℤ, pos, negsuc, neg_ℤ, ◌-ℤ◌, ◌+ℤ◌, int_lt, int_le, map, take, drop, ◌+◌, Option, Some, None}
 use Rattle.std.specs.List.{filter, fold, list_all, list_any}
-use Rattle.std.specs.Int.{int_max, int_min}
+use Rattle.std.specs.Int.{int_max, int_min, int_div_euclid}
 use Rattle.std.specs.Ordering.{int_eq}
 use Rattle.rx_linear.specs.declared.row.Row.{Row}
 use Rattle.rx_linear.specs.Units.{coefficient, is_unit_row}
@@ -90,3 +91,12 @@ is_narrower rows x y = int_lt (pos 0) (width rows x) && (int_le (width rows y) (
 abbrev pub narrowest : ℕ → List Row → ℕ
 narrowest zero rows = 0
 narrowest (suc n) rows = cond (is_narrower rows n (narrowest n rows)) n (narrowest n rows)
+
+abbrev pub middle_between : Option ℤ → Option ℤ → ℤ
+middle_between None high = pos 0
+middle_between (Some low) None = pos 0
+middle_between (Some low) (Some high) = low +ℤ int_div_euclid (high -ℤ low) (pos 2)
+
+-- the middle of the values that variable x has between its unit bounds, rounded down
+abbrev pub middle : ℕ → List Row → ℤ
+middle x rows = middle_between (greatest_lower x rows) (least_upper x rows)

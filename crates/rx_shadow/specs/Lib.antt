@@ -6,3 +6,4 @@ pub mod Derivations
 pub mod Placing
 pub mod Solving
 pub mod Laws
+pub mod Joined

@@ -1,10 +1,11 @@
 // The unit bounds of variables.
-ghost use Rattle.std.specs.Prelude.{◌≡◌, ◌<◌, ◌^◌, ◌-ℤ◌, unsigned_abs, None, false, ◌⊎◌, length, IfSome, IsSomeAnd, Some, true, pos, negsuc, neg_ℤ, int_lt, option_map, map, ℤ, MatchOption};
+ghost use Rattle.std.specs.Prelude.{◌≡◌, ◌<◌, ◌^◌, ◌-ℤ◌, ◌+ℤ◌, unsigned_abs, None, false, ◌⊎◌, length, IfSome, IsSomeAnd, Some, true, pos, negsuc, neg_ℤ, int_lt, option_map, map, ℤ, MatchOption};
 ghost use Rattle.std.specs.List.{All, Contains, filter};
+ghost use Rattle.std.specs.Int.{int_div_euclid};
 ghost use Rattle.std.specs.Ordering.{int_eq};
 ghost use Rattle.rx_linear.specs.Rows.{Narrow};
 ghost use Rattle.rx_linear.specs.Units.{is_unit_row};
-ghost use Rattle.rx_shadow.specs.Bounds.{greatest_of, raised, bounds_clash, fixed_value, width, is_narrower, narrowest};
+ghost use Rattle.rx_shadow.specs.Bounds.{greatest_of, raised, bounds_clash, fixed_value, width, is_narrower, narrowest, middle};
 ghost use Rattle.rx_shadow.specs.Known.{rows_of, AllFit};
 ghost use Rattle.rx_shadow.specs.BoundRows.{AreBounds, LacksBound};
 ghost use Rattle.rx_shadow.specs.Derivations.{IsClosing};
@@ -154,4 +155,25 @@ pub(crate) fn narrowest(variables: usize, known: &[Known]) -> usize
         }
     }
     best
+}
+
+/// The number half way from the lower bound to the negation of the other constant, rounded down.
+fn half_way(low: &i128, high: &i128) -> i128
+    requires low_small { unsigned_abs low.now < 2 ^ 100 }
+    requires high_small { unsigned_abs high.now < 2 ^ 100 }
+    ensures { result ≡ low.now +ℤ int_div_euclid (neg_ℤ high.now -ℤ low.now) (pos 2) }
+{
+    *low + distance(low, high).div_euclid(2)
+}
+
+/// The middle of the values of the variable between its bounds, or 0 where one is missing.
+pub(crate) fn middle(variable: usize, variables: usize, known: &[Known]) -> i128
+    requires variable { variable < variables }
+    requires fit { AllFit variables known.now }
+    ensures { result ≡ middle variable (rows_of known.now) }
+{
+    match bounds(variable, known) {
+        Some((low, high)) => half_way(&low.row.least, &high.row.least),
+        None => 0,
+    }
 }

@@ -5,6 +5,7 @@ mod bounds;
 mod eliminating;
 mod exact;
 mod fault;
+mod joined;
 mod known;
 mod laws;
 mod placing;
@@ -12,6 +13,7 @@ mod rows;
 mod solving;
 
 pub use fault::NoMemory;
+pub use joined::JoinedRows;
 pub use laws::{elimination_is_a_recursion, elimination_keeps_the_points};
 pub use solving::{Solved, is_bounded, solve};
 

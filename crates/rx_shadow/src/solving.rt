@@ -37,7 +37,7 @@ pub enum Solved {
 }
 
 /// Whether the tight row is put at the end when it is joined.
-fn is_new(row: &Row, known: &[Known]) -> bool
+pub(crate) fn is_new(row: &Row, known: &[Known]) -> bool
     ensures { result ≡ not (is_true row.now || list_any (same_row row.now) (rows_of known.now)) }
 {
     !(is_true(row) || is_there(row, known))
@@ -78,7 +78,12 @@ fn origin(alloc: Global, variables: usize) -> Result<Solved, NoMemory>
 }
 
 /// What at most so many rounds of exact elimination come to.
-fn search(alloc: Global, rounds: usize, narrow: usize, rows: Derived) -> Result<Solved, NoMemory>
+pub(crate) fn search(
+    alloc: Global,
+    rounds: usize,
+    narrow: usize,
+    rows: Derived,
+) -> Result<Solved, NoMemory>
     requires few_variables { rows.variables ≤ 192 }
     requires fits { AllFit rows.variables rows.known.items }
     requires few_given { rows.given < 2 ^ 60 }

@@ -1,0 +1,10 @@
+pub mod Equations
+pub mod Ends
+pub mod Nodes
+pub mod Leaves
+pub mod Branches
+pub mod Progress
+pub mod Middles
+pub mod Halves
+pub mod Calls
+pub mod Outcomes

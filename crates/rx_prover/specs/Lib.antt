@@ -1,0 +1,4 @@
+pub mod Walk
+pub mod Trees
+pub mod Answers
+pub mod Walked
