@@ -15,6 +15,7 @@ fn system(
     variables: usize,
     cells: &[i128],
 ) -> Result<System, NoMemory> {
+    assert!(rt; variables <= 192);
     let mut rows = Vec::new(alloc);
     for row in cells.chunks(variables + 1) {
         if let [coefficients @ .., least] = row {
