@@ -1,3 +1,5 @@
+//! The number of a range of bits, in both byte orders.
+
 ghost use Rattle.std.specs.Prelude.{◌≡◌, ℕ, ◌+◌, ◌*◌, ◌%◌, ◌^◌, ◌<◌, ◌≤◌, ◌⊎◌, length, IsTrue};
 ghost use Rattle.rx_model.specs.Bits.{number, place_bits, reversed_groups, ordered};
 

@@ -30,7 +30,7 @@ goes_on (a ∷ front) t rest (u ∷ front') stop' e h =
     (found.0, cc)
 
 -- a token past the limits is not among tokens that fit
-past : (front : List Token) (t : Token) (rest front' stop' : List Token) → front ++ t ∷ rest ≡ front' ++ stop' → exceeds (limits_behind no_limits front) t.kind ≡ true → Fits no_limits front' → length front < length front' → ⊥
+pub past : (front : List Token) (t : Token) (rest front' stop' : List Token) → front ++ t ∷ rest ≡ front' ++ stop' → exceeds (limits_behind no_limits front) t.kind ≡ true → Fits no_limits front' → length front < length front' → ⊥
 past front t rest front' stop' e over fits h =
     let found = goes_on front t rest front' stop' e h in
     let here = fits_at no_limits front t found.0 (subst (Fits no_limits) found.1 fits) in

@@ -27,11 +27,11 @@ use Rattle.rx_grammar.specs.Grammar.{rule, expr}
 use Rattle.rx_grammar.specs.Sentence.{IsExpr}
 use Rattle.rx_grammar.specs.Reads as reads
 use Rattle.rx_grammar.specs.Reads.{IsBlocked, Stops, Fails, Read, IsFault}
-use Rattle.rx_grammar.specs.Part.{NoFront, NoLonger, start_of, IsPart, IsPartRead, IsPartStop, IsLongestExpr}
+use Rattle.rx_grammar.specs.Part.{NoFront, NoLonger, IsWithinLimits, start_of, IsPart, IsPartRead, IsPartStop, IsLongestExpr}
 use Rattle.rx_grammar.specs.Part as parts
 use Rattle.rx_grammar.specs.Part.{IsPartFault}
 use Rattle.rx_grammar.specs.Syntax as syntax
-use Rattle.rx_grammar.specs.Syntax.{place_of, IsToldAt, IsSyntaxFault, IsToldFault, IsFaultAlone}
+use Rattle.rx_grammar.specs.Syntax.{IsTooDeep, place_of, IsToldAt, IsSyntaxFault, IsToldFault, IsFaultAlone}
 use Rattle.rx_grammar.specs.declared.part.Part.TheVariants as part
 use Rattle.rx_grammar.specs.declared.part.PartTree.TheVariants as tree
 use Rattle.rx_grammar.specs.declared.syntax.SyntaxFault.{SyntaxFault}
@@ -39,6 +39,7 @@ use Rattle.rx_grammar.specs.declared.syntax.SyntaxFault.TheVariants as told
 use Rattle.rx_syntax.specs.declared.token.Place.{Place}
 use Rattle.rx_grammar.proofs.Whole.{alone_of, stops_there, not_past, front_is, fault_told}
 use Rattle.rx_grammar.proofs.First.{or_cases}
+use Rattle.rx_grammar.proofs.OneFault.{fits_at, fits_not_deep, past}
 use Rattle.rx_grammar.proofs.Steps.{begins_front, dead_end}
 use Rattle.std.proofs.lemmas.List.{take-append-le}
 
@@ -115,6 +116,29 @@ no_longer s more ts x (t ∷ rest) l r m h d =
     let st = stops_there s more ts x t rest l r in
     not_past s r.used (t ∷ rest) st.blocked m (subst (λ k. m ≤ k) (ap length r.split) h) (subst (λ xs. Begins (s ∷ []) (take m xs)) r.split (begins_whole s (take m ts) d))
 
+-- where every front with which a sentence begins lies within tokens that fit, no limit is passed
+within_front : (s : Symbol) (ts front stop : List Token) → ts ≡ front ++ stop → ((n : ℕ) → n ≤ length (front ++ stop) → Begins (s ∷ []) (take n (front ++ stop)) → n ≤ length front) → Fits no_limits front → IsWithinLimits s ts
+within_front s ts front stop split most fits e a =
+    let both : a.front ++ a.at ∷ a.rest ≡ front ++ stop = sym a.split ∙ split in
+    let there = a.front ++ a.at ∷ [] in
+    let whole : there ++ a.rest ≡ front ++ stop = append_assoc a.front (a.at ∷ []) a.rest ∙ both in
+    let same : take (length there) (front ++ stop) ≡ there = ap (take (length there)) (sym whole) ∙ take-append_seam there a.rest in
+    let sizes = ap length whole in
+    let x = length-append there a.rest in
+    let y = length-append a.front (a.at ∷ []) in
+    let long = most (length there) (omega arith) (subst (Begins (s ∷ [])) (sym same) a.begins) in
+    past a.front a.at a.rest front stop both a.exceeds fits (omega arith)
+
+most_read : {A : Type 0} {P : List Token → A → Type 0} (s : Symbol) (more : List Terminal) (ts : List Token) (x : A) (rest : List Token) (l : Limits) (r : Read s (after more) P ts no_limits x rest l) → (n : ℕ) → n ≤ length (r.used ++ rest) → Begins (s ∷ []) (take n (r.used ++ rest)) → n ≤ length r.used
+most_read s more ts x [] l r n h b = let a = length-append r.used [] in omega arith
+most_read s more ts x (t ∷ rest) l r n h b = let st = stops_there s more ts x t rest l r in not_past s r.used (t ∷ rest) st.blocked n h b
+
+within_read : {A : Type 0} {P : List Token → A → Type 0} (s : Symbol) (more : List Terminal) (ts : List Token) (x : A) (rest : List Token) (l : Limits) → Read s (after more) P ts no_limits x rest l → IsWithinLimits s ts
+within_read s more ts x rest l r = within_front s ts r.used rest r.split (most_read s more ts x rest l r) r.fits
+
+within_stop : (s : Symbol) (ts : List Token) (left : ℕ) → IsFaultAlone s ts (fault.Expected left) → IsWithinLimits s ts
+within_stop s ts left (syntax.expected front stop k l r h) = within_front s ts front stop k (not_past s front stop r.blocked) h
+
 used_is : {A : Type 0} {P : List Token → A → Type 0} {s : Symbol} {more : List Terminal} {ts : List Token} {x : A} {rest : List Token} {l : Limits} (r : Read s (after more) P ts no_limits x rest l) → take (length r.used) ts ≡ r.used
 used_is {rest = rest} r = ap (take (length r.used)) r.split ∙ take-append_seam r.used rest
 
@@ -130,6 +154,7 @@ part_read p more ts x rest l tree start next r f e =
       next_is = omega arith;
       sentence = subst (λ xs. IsPart p xs tree) (sym (used_is r)) (f r.used r.sentence);
       longest = no_longer (start_of p) more ts x rest l r;
+      limits = within_read (start_of p) more ts x rest l r;
     }
 
 pub expr_read : (more : List Terminal) (ts : List Token) (x : ExprTree) (rest : List Token) (l : Limits) (len : ℕ) → Read (rule expr) (after more) IsExpr ts no_limits x rest l → len ≡ length ts - length rest → IsLongestExpr ts x len
@@ -140,6 +165,7 @@ expr_read more ts x rest l len r e =
       within = omega arith;
       sentence = subst (λ k. IsExpr (take k ts) x) same (subst (λ xs. IsExpr xs x) (sym (used_is r)) r.sentence);
       longest = λ m h d. subst (λ k. m ≤ k) same (no_longer (rule expr) more ts x rest l r m h d);
+      limits = within_read (rule expr) more ts x rest l r;
     }
 
 -- an expression that is shorter than the tokens is not all of them
@@ -155,10 +181,6 @@ whole_is ts x len r e = subst (λ xs. IsExpr xs x) (ap (λ k. take k ts) e ∙ t
 -- where the parser stops, the tokens are no sentence
 pub no_sentence_there : (s : Symbol) (ts : List Token) (left : ℕ) → IsFaultAlone s ts (fault.Expected left) → Derives Whole (s ∷ []) ts → ⊥
 no_sentence_there s ts left (syntax.expected front stop k l r h) d = blocked_whole (s ∷ []) front stop r.blocked (subst (Derives Whole (s ∷ [])) k d)
-
-fits_at : (l : Limits) (front : List Token) (at : Token) (rest : List Token) → Fits l (front ++ at ∷ rest) → exceeds (limits_behind l front) at.kind ≡ false
-fits_at l [] at rest f = f.0
-fits_at l (t ∷ front) at rest f = fits_at (limits_after l t.kind) front at rest f.1
 
 -- tokens within the limits are not too deep
 pub not_too_deep : (s : Symbol) (ts : List Token) (left : ℕ) → Fits no_limits ts → IsFaultAlone s ts (fault.TooDeep left) → ⊥
@@ -203,6 +225,7 @@ module _ (ts : List Token) (left : ℕ) where
         within = omega arith;
         sentence = subst (λ xs. IsExpr xs x) (same_take s len n) r.sentence;
         longest = λ m h d. let k = s.most m h d in r.longest m (subst (λ xs. m ≤ length xs) (sym s.is) k) (subst (Derives Whole (rule expr ∷ [])) (sym (same_take s m k)) d);
+        limits = within_stop (rule expr) ts left f;
       }
 
   pub none_before : IsFaultAlone (rule expr) ts (fault.Expected left) → NoFront (rule expr) before → NoFront (rule expr) ts
@@ -233,11 +256,12 @@ none_less ts len here n m g h d = by_order (cases_lt len m)
     by_order (inl e) = n m e h d
     by_order (inr e) = let same : m ≡ len = omega arith in here (subst (λ k. Derives Whole (rule expr ∷ []) (take k ts)) same d)
 
-pub found_longest : (ts front : List Token) (x : ExprTree) (len : ℕ) → len ≤ length ts → front ≡ take len ts → IsExpr front x → ((m : ℕ) → len < m → m ≤ length ts → Derives Whole (rule expr ∷ []) (take m ts) → ⊥) → IsLongestExpr ts x len
-found_longest ts front x len w e h n = record {
+pub found_longest : (ts front : List Token) (x : ExprTree) (len : ℕ) → Fits no_limits ts → len ≤ length ts → front ≡ take len ts → IsExpr front x → ((m : ℕ) → len < m → m ≤ length ts → Derives Whole (rule expr ∷ []) (take m ts) → ⊥) → IsLongestExpr ts x len
+found_longest ts front x len f w e h n = record {
   within = w;
   sentence = subst (λ xs. IsExpr xs x) e h;
   longest = λ m k d. by_order m k d (cases_lt len m);
+  limits = λ e a. fits_not_deep (rule expr) ts e a f;
 }
   where
     by_order : (m : ℕ) → m ≤ length ts → Derives Whole (rule expr ∷ []) (take m ts) → (len < m) ⊎ (m ≤ len) → m ≤ len
@@ -245,7 +269,7 @@ found_longest ts front x len w e h n = record {
     by_order m k d (inr g) = g
 
 pub expression_read : (ts : List Token) (x : ExprTree) (len start next : ℕ) → IsLongestExpr ts x len → next ≡ start + len → IsPartRead part.Expression ts start (tree.Expression x) next
-expression_read ts x len start next r e = record { len = len; within = r.within; next_is = e; sentence = parts.is_expression r.sentence; longest = r.longest }
+expression_read ts x len start next r e = record { len = len; within = r.within; next_is = e; sentence = parts.is_expression r.sentence; longest = r.longest; limits = r.limits }
 
 told_twice : (p : Place) (plain : Bool) (front stop : List Token) (last : Place) (e : SyntaxFault) → IsToldAt plain front stop last e → e ≡ told.TooDeep p → ⊥
 told_twice p plain front stop last _ (syntax.expected n) b = cc

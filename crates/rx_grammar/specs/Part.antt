@@ -1,4 +1,4 @@
--- The parts of a package: `start_of`, `IsPart`, `IsPartRead`, `IsPartFault`.
+-- The parts of a package: `start_of`, `IsPart`, `NoLonger`, `IsWithinLimits`, `IsPartRead`, `IsPartFault`.
 use Rattle.std.specs.Prelude.{◌≡◌, ℕ, ◌+◌, ◌≤◌, Bool, false, List, [], ◌∷◌, length, take}
 use Rattle.rx_syntax.specs.declared.token.Place.{Place}
 use Rattle.rx_syntax.specs.declared.token.Token.{Token}
@@ -43,6 +43,10 @@ NoLonger s ts n = (m : ℕ) → m ≤ length ts → Derives Whole (s ∷ []) (ta
 abbrev pub NoFront : Symbol → List Token → Type 0
 NoFront s ts = (m : ℕ) → m ≤ length ts → Derives Whole (s ∷ []) (take m ts) → ⊥
 
+-- no token with which a sentence could go on is past a limit
+abbrev pub IsWithinLimits : Symbol → List Token → Type 0
+IsWithinLimits s ts = (e : SyntaxFault) → IsTooDeep s ts e → ⊥
+
 -- the longest sentence of the part, and the index of the next token
 pub record IsPartRead (p : Part) (ts : List Token) (start : ℕ) (tree : PartTree) (next : ℕ) : Type 0 where
   pub len : ℕ
@@ -50,6 +54,7 @@ pub record IsPartRead (p : Part) (ts : List Token) (start : ℕ) (tree : PartTre
   pub next_is : next ≡ start + len
   pub sentence : IsPart p (take len ts) tree
   pub longest : NoLonger (start_of p) ts len
+  pub limits : IsWithinLimits (start_of p) ts
 
 -- why there is no sentence of the part, or a limit is passed
 pub data IsPartFault (s : Symbol) (ts : List Token) (last : Place) (e : SyntaxFault) : Type 0 where
@@ -61,6 +66,7 @@ pub record IsLongestExpr (ts : List Token) (tree : ExprTree) (len : ℕ) : Type 
   pub within : len ≤ length ts
   pub sentence : IsExpr (take len ts) tree
   pub longest : NoLonger (rule expr) ts len
+  pub limits : IsWithinLimits (rule expr) ts
 
 -- why a parser found no sentence of the part
 pub record IsPartStop (s : Symbol) (ts : List Token) (e : Fault) : Type 0 where

@@ -1,3 +1,5 @@
+//! Want of memory, as the objects outside tell it.
+
 use std::alloc::{AllocError, AllocFailed};
 
 /// Want of memory.

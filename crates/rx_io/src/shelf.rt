@@ -1,3 +1,5 @@
+//! Shelves: where the texts of packages lie.
+
 ghost use Rattle.std.specs.Prelude.{◌≡◌, ℕ, ◌≤◌, List, [], Option, IfOk, IfSome, OnErr, IsErrOf};
 ghost use Rattle.rx_io.specs.Faults.{HasRisen};
 
