@@ -1,4 +1,5 @@
 pub mod AnswerLemmas
+pub mod ClosureLemmas
 pub mod ChainLemmas
 pub mod StuckLemmas
 pub mod DeclaredLemmas
@@ -6,6 +7,9 @@ pub mod PackageLemmas
 pub mod SpelledLemmas
 pub mod WordLemmas
 pub mod OneAnswer
+pub mod OneHeader
+pub mod OneText
+pub mod OneWalk
 pub mod OneDecoding
 pub mod OneFields
 pub mod OneOrder

@@ -16,7 +16,7 @@ use Rattle.rx_program.specs.declared.package.Package.{Package}
 use Rattle.rx_program.specs.Words.{is_no_colon, IsOperand, IsDecode}
 use Rattle.rx_syntax.proofs.Goes.{one_list}
 use Rattle.rx_program.specs.Package.{kinds_of}
-use Rattle.rx_program.specs.Chains.{name_of, is_new_type, is_new_field, AreNewFields, IsDeclared, AreDeclared, IsPackage, IsMessage, Declares}
+use Rattle.rx_program.specs.Chains.{name_of, is_new_type, is_new_field, AreNewFields, IsDeclared, AreDeclared, IsPackageOfChains, IsMessage, Declares}
 use Rattle.rx_program.proofs.WordLemmas.{stands_at}
 use Rattle.rx_program.proofs.PackageLemmas.{package_same}
 use Rattle.rx_program.proofs.DeclaredLemmas.{map-Some-same}
@@ -40,7 +40,7 @@ decode_same (a ∷ b ∷ []) name message other another is is' = operand_same b 
 decode_same (a ∷ b ∷ c ∷ rest) name message other another is is' = absurd is
 
 -- a text is that of one package
-pub is_package_same : (text name : List ℕ) (p q : Package) → IsPackage text name p → IsPackage text name q → p ≡ q
+pub is_package_same : (text name : List ℕ) (p q : Package) → IsPackageOfChains text name p → IsPackageOfChains text name q → p ≡ q
 is_package_same text name p q is is' =
     let tokens = one_list text is.tokens is'.tokens is.last is'.last is.are is'.are in
     package_same p q (sym is.spelled ∙ ap kinds_of tokens ∙ is'.spelled)

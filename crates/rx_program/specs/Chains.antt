@@ -1,5 +1,5 @@
 -- Which declarations may stand in a package, and the chain of fields that a message's declaration is.
--- IsChain: a message's fields; IsDeclared: one declaration; IsPackage: a text; Declares: a message of a package.
+-- IsChain: a message's fields; IsDeclared: one declaration; IsPackageOfChains: a text; Declares: a message of a package.
 use Rattle.std.specs.Prelude.{◌≡◌, ◌&&◌, not, ℕ, ℤ, pos, int_le, unsigned_abs, ◌<◌, ◌≤◌, ◌%◌, Bool, true, List, [], ◌∷◌, length, take, map, codes, slice_get, Option, Some, None, if◌then◌else◌}
 use Rattle.std.specs.List.{list_any}
 use Rattle.std.specs.Option.{option_map}
@@ -80,8 +80,8 @@ pub record IsWellFormed (p : Package) (name : List ℕ) : Type 0 where
   pub ends : IsNamed p.end_name name
   pub declared : AreDeclared p.declarations
 
--- the text is that of the package of this name
-pub record IsPackage (text name : List ℕ) (p : Package) : Type 0 where
+-- the text is that of the package of this name, whose messages are chains
+pub record IsPackageOfChains (text name : List ℕ) (p : Package) : Type 0 where
   pub tokens : List Token
   pub last : Place
   pub are : AreTokens text tokens last

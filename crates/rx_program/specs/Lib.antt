@@ -5,6 +5,9 @@ pub mod Chain
 pub mod ChainLaws
 pub mod Chains
 pub mod Decode
+pub mod Refusals
+pub mod Closure
+pub mod Stop
 pub mod Answers
 pub mod Supply
 pub mod Input

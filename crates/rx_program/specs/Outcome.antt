@@ -8,7 +8,10 @@ use Rattle.rx_program.specs.declared.status.Status.TheVariants.{SourceFault as S
 use Rattle.rx_program.specs.declared.answer.Member.{Member}
 use Rattle.rx_program.specs.declared.answer.Decoding.TheVariants.{Decoded, Short, Trailing}
 use Rattle.rx_program.specs.declared.answer.Answer.{Answer}
-use Rattle.rx_program.specs.declared.answer.Answer.TheVariants.{Usage, ShelfFault, NoPackage, TextLimit, Unsupported, NoMessage, SourceFault, InputLimit, Input}
+use Rattle.rx_program.specs.declared.answer.Answer.TheVariants.{Usage, ShelfFault, NoPackage, TextLimit, Refused, PackageLimit, Later, NoMessage, SourceFault, InputLimit, Input}
+use Rattle.rx_program.specs.declared.refusal.Cause.TheVariants.{Unsupported}
+use Rattle.rx_program.specs.declared.refusal.Refusal.{Refusal}
+use Rattle.rx_program.specs.Refusals.{refusal_text}
 use Rattle.rx_program.specs.Answers.{Answers}
 
 -- a member of an object
@@ -29,8 +32,10 @@ abbrev pub status_of : Answer → Status
 status_of Usage = Words
 status_of ShelfFault = ShelfStatus
 status_of (NoPackage name) = Specification
-status_of (TextLimit name) = Limit
-status_of (Unsupported name) = Specification
+status_of (TextLimit file) = Limit
+status_of (Refused file refusal) = Specification
+status_of PackageLimit = Limit
+status_of (Later name place) = Specification
 status_of (NoMessage name message) = Specification
 status_of SourceFault = SourceStatus
 status_of InputLimit = Limit
@@ -46,13 +51,19 @@ line text = text ++ 10 ∷ []
 abbrev pub file_of : List ℕ → List ℕ
 file_of name = str_to_ascii_lowercase name ++ codes ".rflx"
 
+-- `FILE:LINE:COLUMN: NUMBER NAME`, and the word
+abbrev pub refused_text : List ℕ → Refusal → List ℕ
+refused_text name refusal = line (file_of name ++ codes ":" ++ refusal_text refusal)
+
 -- the text is that of the answer
 abbrev pub IsText : Answer → List ℕ → Type 0
 IsText Usage text = text ≡ line (codes "usage: rflx check P, decode P::M [--deep Q], encode P::M, run P::S, load N, all with [--splits K]")
 IsText ShelfFault text = text ≡ line (codes "fault: shelf")
 IsText (NoPackage name) text = text ≡ line (file_of name ++ codes ": 8 UnknownName " ++ name)
 IsText (TextLimit name) text = text ≡ line (codes "limit: text " ++ file_of name)
-IsText (Unsupported name) text = text ≡ line (file_of name ++ codes ": 7 Unsupported")
+IsText (Refused name refusal) text = text ≡ refused_text name refusal
+IsText PackageLimit text = text ≡ line (codes "limit: packages")
+IsText (Later name place) text = text ≡ refused_text name (record { place = place; cause = Unsupported (codes "Later") })
 IsText (NoMessage name message) text = text ≡ line (file_of name ++ codes ": 8 UnknownName " ++ message)
 IsText SourceFault text = text ≡ line (codes "fault: source")
 IsText InputLimit text = text ≡ line (codes "limit: input")

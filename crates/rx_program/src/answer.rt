@@ -1,5 +1,6 @@
 //! What a command answers, before it is printed.
-use rx_syntax::Word;
+use crate::refusal::Refusal;
+use rx_syntax::{Place, Word};
 use sqlite_items::Items;
 
 /// The number that a field has in the input.
@@ -29,8 +30,12 @@ pub enum Answer {
     NoPackage(Word),
     /// The text of this package is too long.
     TextLimit(Word),
-    /// The text is no package that is served.
-    Unsupported(Word),
+    /// The text of this package is refused.
+    Refused(Word, Refusal),
+    /// A 65th package is named.
+    PackageLimit,
+    /// This package, whose name stands at the place in its text, has forms that are not decoded yet.
+    Later(Word, Place),
     /// The package has no message of the second name.
     NoMessage(Word, Word),
     SourceFault,

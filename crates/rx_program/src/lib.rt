@@ -5,6 +5,9 @@ mod adapters;
 mod answer;
 mod chain;
 mod chains;
+mod closure;
+#[cfg(test)]
+mod closure_tests;
 mod decode;
 pub mod laws;
 mod names;
@@ -12,10 +15,13 @@ mod order;
 mod package;
 mod print;
 mod reader;
+mod refusal;
 mod status;
 mod supply;
 #[cfg(test)]
 mod tests;
+#[cfg(test)]
+mod text_tests;
 mod top;
 mod words;
 

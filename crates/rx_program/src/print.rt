@@ -2,12 +2,14 @@
 ghost use Rattle.std.specs.Prelude.{◌≡◌, ℕ, List, [], ◌∷◌, ◌++◌, IfOk, OnOk, codes};
 ghost use Rattle.std.specs.Io.KnownBytes.{Appends};
 ghost use Rattle.rx_io.specs.Faults.{HasRisen};
-ghost use Rattle.rx_program.specs.Outcome.{status_of, file_of, IsText, IsShown, Prints, member_text, others_text, object_text};
+ghost use Rattle.rx_program.specs.Refusals.{number_of, label_of, place_text, refusal_text};
+ghost use Rattle.rx_program.specs.Outcome.{status_of, file_of, refused_text, IsText, IsShown, Prints, member_text, others_text, object_text};
 
 use crate::answer::{Answer, Decoding, Member};
+use crate::refusal::{Cause, Refusal};
 use crate::status::Status;
 use rx_io::{Sink, write_all};
-use rx_syntax::{NoMemory, Word};
+use rx_syntax::{NoMemory, Place, Word};
 use std::alloc::Global;
 
 // Puts bytes at the end.
@@ -16,6 +18,14 @@ fn put(line: &mut Vec<u8>, bytes: &[u8]) -> Result<(), NoMemory>
 {
     line.extend_from_slice(bytes)?;
     Ok(())
+}
+
+// Puts bytes and then others at the end.
+fn put_both(line: &mut Vec<u8>, first: &[u8], second: &[u8]) -> Result<(), NoMemory>
+    ensures { OnOk result (line.new.items ≡ line.old.items ++ (first.now ++ second.now)) }
+{
+    put(line, first)?;
+    put(line, second)
 }
 
 // Puts a member at the end.
@@ -91,6 +101,78 @@ fn unknown(alloc: Global, name: &Word, lacking: &Word) -> Result<Vec<u8>, NoMemo
     )
 }
 
+// The number of a cause.
+fn number_of(cause: &Cause) -> u8
+    ensures { result ≡ number_of cause.now }
+{
+    match cause {
+        Cause::BadByte => 1,
+        Cause::BadNumber => 2,
+        Cause::BadName => 3,
+        Cause::TextLimit => 4,
+        Cause::Expected => 5,
+        Cause::TooDeep => 6,
+        Cause::Unsupported(_) => 7,
+    }
+}
+
+// Puts the name of a cause at the end.
+fn put_label(line: &mut Vec<u8>, cause: &Cause) -> Result<(), NoMemory>
+    ensures { OnOk result (line.new.items ≡ line.old.items ++ label_of cause.now) }
+{
+    match cause {
+        Cause::BadByte => put(line, b"BadByte"),
+        Cause::BadNumber => put(line, b"BadNumber"),
+        Cause::BadName => put(line, b"BadName"),
+        Cause::TextLimit => put(line, b"TextLimit"),
+        Cause::Expected => put(line, b"Expected"),
+        Cause::TooDeep => put(line, b"TooDeep"),
+        Cause::Unsupported(word) => put_both(line, b"Unsupported ", word.as_str().as_bytes()),
+    }
+}
+
+// Puts a place at the end.
+fn put_place(alloc: Global, line: &mut Vec<u8>, place: Place) -> Result<(), NoMemory>
+    ensures { OnOk result (line.new.items ≡ line.old.items ++ place_text place) }
+{
+    put(line, place.line.to_string(alloc)?.as_bytes())?;
+    put(line, b":")?;
+    put(line, place.column.to_string(alloc)?.as_bytes())
+}
+
+// The text of a refusal.
+fn refusal_text(alloc: Global, refusal: &Refusal) -> Result<Vec<u8>, NoMemory>
+    ensures { IfOk result (λ text. text.items ≡ refusal_text refusal.now) }
+{
+    let mut text = Vec::new(alloc);
+    put_place(alloc, &mut text, refusal.place)?;
+    put(&mut text, b": ")?;
+    put(
+        &mut text,
+        number_of(&refusal.cause).to_string(alloc)?.as_bytes(),
+    )?;
+    put(&mut text, b" ")?;
+    put_label(&mut text, &refusal.cause)?;
+    Ok(text)
+}
+
+// The line of a package whose text is refused.
+fn refused(alloc: Global, name: &Word, refusal: &Refusal) -> Result<Vec<u8>, NoMemory>
+    ensures { IfOk result (λ text. text.items ≡ refused_text name.now refusal.now) }
+{
+    let file = file_of(alloc, name)?;
+    let text = refusal_text(alloc, refusal)?;
+    line_of(alloc, &file, b":", &text)
+}
+
+// The line of a package that has forms that are not decoded yet, and whose name stands at the place.
+fn later(alloc: Global, name: &Word, place: Place) -> Result<Vec<u8>, NoMemory>
+    ensures { IfOk result (λ text. IsText (Answer.Later name.now place) text.items) }
+{
+    let cause = Cause::Unsupported(Word::make(alloc, "Later")?);
+    refused(alloc, name, &Refusal { place, cause })
+}
+
 // The status of an answer.
 fn status_of(answer: &Answer) -> Status
     ensures { result ≡ status_of answer.now }
@@ -100,7 +182,9 @@ fn status_of(answer: &Answer) -> Status
         Answer::ShelfFault => Status::ShelfFault,
         Answer::NoPackage(_) => Status::Specification,
         Answer::TextLimit(_) => Status::Limit,
-        Answer::Unsupported(_) => Status::Specification,
+        Answer::Refused(_, _) => Status::Specification,
+        Answer::PackageLimit => Status::Limit,
+        Answer::Later(_, _) => Status::Specification,
         Answer::NoMessage(_, _) => Status::Specification,
         Answer::SourceFault => Status::SourceFault,
         Answer::InputLimit => Status::Limit,
@@ -146,10 +230,9 @@ fn text_of(alloc: Global, answer: &Answer) -> Result<Vec<u8>, NoMemory>
             let file = file_of(alloc, name)?;
             line_of(alloc, b"limit: text ", &file, b"")
         }
-        Answer::Unsupported(name) => {
-            let file = file_of(alloc, name)?;
-            line_of(alloc, b"", &file, b": 7 Unsupported")
-        }
+        Answer::Refused(name, refusal) => refused(alloc, name, refusal),
+        Answer::PackageLimit => line_of(alloc, b"limit: packages", b"", b""),
+        Answer::Later(name, place) => later(alloc, name, *place),
         Answer::NoMessage(name, message) => unknown(alloc, name, message),
         Answer::SourceFault => line_of(alloc, b"fault: source", b"", b""),
         Answer::InputLimit => line_of(alloc, b"limit: input", b"", b""),

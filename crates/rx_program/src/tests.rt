@@ -1,3 +1,4 @@
+//! Tests of whole commands over objects in memory, and one of each object of the real world.
 use crate::{FolderShelf, Status, StdSink, StdSource, run};
 use rx_io::{Fetched, MemoryShelf, MemorySink, MemorySource, Shelf, Sink, Source};
 use std::alloc::Global;
@@ -7,7 +8,7 @@ const PAIR: &[u8] =
     b"package Pair is type Byte is unsigned 8; type M is message Left : Byte; Right : Byte; end message; end Pair;";
 
 // The words of `decode` of this operand.
-fn decode_words(alloc: Global, operand: &str) -> Result<Vec<String>, Fail> {
+pub fn decode_words(alloc: Global, operand: &str) -> Result<Vec<String>, Fail> {
     let mut words = Vec::new(alloc);
     words.push(String::from_str(alloc, "decode")?)?;
     words.push(String::from_str(alloc, operand)?)?;
@@ -15,7 +16,7 @@ fn decode_words(alloc: Global, operand: &str) -> Result<Vec<String>, Fail> {
 }
 
 // The status of `decode` of this operand over objects in memory, and what was written.
-fn decoded(
+pub fn decoded(
     alloc: Global,
     name: &str,
     text: &[u8],
@@ -128,43 +129,43 @@ fn serves_just_chains_of_1_to_63_bits(rt: HostRuntime) -> Result<(), Fail> {
             b"package P is type A is unsigned 64; type M is message Y : A; end message; end P;",
             b"",
             Status::Specification,
-            b"p.rflx: 7 Unsupported\n",
+            b"p.rflx:1:9: 7 Unsupported Later\n",
         ),
         (
             b"package P is type A is unsigned 0; type M is message Y : A; end message; end P;",
             b"",
             Status::Specification,
-            b"p.rflx: 7 Unsupported\n",
+            b"p.rflx:1:9: 7 Unsupported Later\n",
         ),
         (
             b"package P is type A is unsigned 7; type M is message Y : A; end message; end P;",
             b"",
             Status::Specification,
-            b"p.rflx: 7 Unsupported\n",
+            b"p.rflx:1:9: 7 Unsupported Later\n",
         ),
         (
             b"package P is type A is unsigned 8; type M is message Y : A; y : A; end message; end P;",
             b"",
             Status::Specification,
-            b"p.rflx: 7 Unsupported\n",
+            b"p.rflx:1:9: 7 Unsupported Later\n",
         ),
         (
             b"package P is type A is unsigned 8; type a is unsigned 8; type M is message Y : A; end message; end P;",
             b"",
             Status::Specification,
-            b"p.rflx: 7 Unsupported\n",
+            b"p.rflx:1:9: 7 Unsupported Later\n",
         ),
         (
             b"package P is type M is message Y : A; end message; type A is unsigned 8; end P;",
             b"",
             Status::Specification,
-            b"p.rflx: 7 Unsupported\n",
+            b"p.rflx:1:9: 7 Unsupported Later\n",
         ),
         (
             b"package P is type A is unsigned 8; type M is message Message : A; end message; end P;",
             b"",
             Status::Specification,
-            b"p.rflx: 7 Unsupported\n",
+            b"p.rflx:1:9: 7 Unsupported Later\n",
         ),
     ];
     for (text, input, status, written) in cases {
@@ -213,7 +214,10 @@ fn serves_128_fields_and_no_more(rt: HostRuntime) -> Result<(), Fail> {
     let text = with_fields(rt.alloc(), 129)?;
     let (status, line) = decoded(rt.alloc(), "p", &text, "P::M", b"")?;
     assert_eq!(rt; status, Status::Specification);
-    assert_eq!(rt; line.as_slice(), b"p.rflx: 7 Unsupported\n".as_slice());
+    assert_eq!(rt;
+        line.as_slice(),
+        b"p.rflx:1:9: 7 Unsupported Later\n".as_slice()
+    );
     Ok(())
 }
 
@@ -225,7 +229,10 @@ fn refuses_a_text_above_1_048_576_bytes(rt: HostRuntime) -> Result<(), Fail> {
     assert_eq!(rt; line.as_slice(), b"limit: text p.rflx\n".as_slice());
     let (status, line) = decoded(rt.alloc(), "p", &blank[1..], "P::M", b"")?;
     assert_eq!(rt; status, Status::Specification);
-    assert_eq!(rt; line.as_slice(), b"p.rflx: 7 Unsupported\n".as_slice());
+    assert_eq!(rt;
+        line.as_slice(),
+        b"p.rflx:1:1048577: 5 Expected\n".as_slice()
+    );
     Ok(())
 }
 

@@ -2,15 +2,18 @@
 ghost use Rattle.std.specs.Prelude.{◌≡◌, ℕ, List, map, IfOk, IfSome, Ok, string_bytes};
 ghost use Rattle.std.specs.Io.KnownBytes.{Appends, IsAtEnd};
 ghost use Rattle.rx_io.specs.Faults.{HasRisen};
-ghost use Rattle.rx_io.specs.Shelf.{SameTexts};
+ghost use Rattle.rx_io.specs.Shelf.{Texts, SameTexts};
 ghost use Rattle.rx_program.specs.Words.{IsDecode, HaveNoForm};
 ghost use Rattle.rx_program.specs.Decode.{AreDecodable};
 ghost use Rattle.rx_program.specs.Input.{IsOfInput, IsOfWhole, IsReadAs};
+ghost use Rattle.rx_program.specs.Closure.{IsClosed};
+ghost use Rattle.rx_program.specs.Stop.{HasParsed, Stops};
 ghost use Rattle.rx_program.specs.Answers.{Answers};
 ghost use Rattle.rx_program.specs.Outcome.{Outcome, MayRefuseWords, ReadsAll};
 
 use crate::answer::Answer;
 use crate::chain::Field;
+use crate::closure::{Parsed, Stop, close};
 use crate::decode::decode;
 use crate::print::print;
 use crate::status::Status;
@@ -36,6 +39,45 @@ fn read_input<I: Source>(alloc: Global, fields: &[Field], input: &mut I) -> Resu
     }
 }
 
+// The answer where the walk from the package that is asked for ends.
+fn stopped(operand: Operand, stop: Stop) -> Result<Answer, NoMemory>
+    ensures answers { IfOk result (λ answer. (texts : Texts) (left : List ℕ) (words : List (List ℕ)) → Stops texts operand.name stop → IsDecode words operand.name operand.message → Answers words texts left answer) }
+    ensures not_usage { result ≡ Ok Answer.Usage → ⊥ }
+    ensures not_input { IfOk result (λ answer. IsOfWhole answer → ⊥) }
+    ensures not_source { result ≡ Ok Answer.SourceFault → ⊥ }
+    ensures fault { result ≡ Ok Answer.ShelfFault → stop ≡ Stop.Fault }
+{
+    match stop {
+        Stop::Fault => Ok(Answer::ShelfFault),
+        Stop::NoPackage => Ok(Answer::NoPackage(operand.name)),
+        Stop::TextLimit(name) => Ok(Answer::TextLimit(name)),
+        Stop::Refused(name, refusal) => Ok(Answer::Refused(name, refusal)),
+        Stop::PackageLimit => Ok(Answer::PackageLimit),
+        Stop::NoMemory => Err(NoMemory),
+    }
+}
+
+// What the package that is asked for and the input give, where all packages of the closure are read.
+fn answer_package<I: Source>(
+    alloc: Global,
+    operand: Operand,
+    first: Parsed,
+    input: &mut I,
+) -> Result<Answer, NoMemory>
+    ensures answers { IfOk result (λ answer. IfSome (I.left input.old) (λ left. (texts : Texts) (words : List (List ℕ))
+        → HasParsed texts operand.name first → IsClosed texts operand.name → IsDecode words operand.name operand.message → Answers words texts left answer)) }
+    ensures not_usage { result ≡ Ok Answer.Usage → ⊥ }
+    ensures not_shelf { result ≡ Ok Answer.ShelfFault → ⊥ }
+    ensures at_end { IfOk result (λ answer. IsOfWhole answer → IsAtEnd (I.left input.new)) }
+    ensures source_fault { result ≡ Ok Answer.SourceFault → HasRisen (I.faults input.old) (I.faults input.new) }
+{
+    match supply(alloc, &operand, first)? {
+        Supplied::Later(place) => Ok(Answer::Later(operand.name, place)),
+        Supplied::NoMessage => Ok(Answer::NoMessage(operand.name, operand.message)),
+        Supplied::Fields(fields) => read_input(alloc, fields.as_slice(), input),
+    }
+}
+
 // What the message that is asked for, the shelf and the input give.
 fn answer_operand<H: Shelf, I: Source>(
     alloc: Global,
@@ -51,13 +93,9 @@ fn answer_operand<H: Shelf, I: Source>(
     ensures shelf_fault { result ≡ Ok Answer.ShelfFault → HasRisen (H.faults shelf.old) (H.faults shelf.new) }
     ensures source_fault { result ≡ Ok Answer.SourceFault → HasRisen (I.faults input.old) (I.faults input.new) }
 {
-    match supply(alloc, &operand, shelf)? {
-        Supplied::Fault => Ok(Answer::ShelfFault),
-        Supplied::NoPackage => Ok(Answer::NoPackage(operand.name)),
-        Supplied::TextLimit => Ok(Answer::TextLimit(operand.name)),
-        Supplied::Unsupported => Ok(Answer::Unsupported(operand.name)),
-        Supplied::NoMessage => Ok(Answer::NoMessage(operand.name, operand.message)),
-        Supplied::Fields(fields) => read_input(alloc, fields.as_slice(), input),
+    match close(alloc, &operand.name, shelf) {
+        Ok(first) => answer_package(alloc, operand, first, input),
+        Err(stop) => stopped(operand, stop),
     }
 }
 

@@ -1,10 +1,10 @@
-use Rattle.rx_program.proofs.AnswerLemmas.{answered}
+use Rattle.rx_program.proofs.AnswerLemmas.{answered, stop_answered}
 use Rattle.rx_program.proofs.top.answer_operand.Goals as goal
 
-pub returns-in-Fields-clause-answers : goal.returns-in-Fields-clause-answers
-returns-in-Fields-clause-answers g c =
-    let told = g.H.Shelf.texts c.args.shelf.now in
-    let input = g.I.Source.left c.args.input.now in
-    let s = rw c.in-Fields.is at c.in_ok-supply.ensures.supplied in
-    let read = rw c.as_slice.ensures at c.read_input.ensures.read in
-    answered told input c.args.operand.name c.args.operand.message c.in-Fields.fields c.read_input.result s read
+pub returns-in-Ok-clause-answers : goal.returns-in-Ok-clause-answers
+returns-in-Ok-clause-answers g c =
+    answered (g.H.Shelf.texts c.args.shelf.now) (g.I.Source.left c.args.input.now) c.args.operand.name c.args.operand.message c.in-Ok.first c.answer_package.result c.in-Ok.ensures.parsed c.in-Ok.ensures.closed c.answer_package.ensures.answers
+
+pub returns-in-Err-clause-answers : goal.returns-in-Err-clause-answers
+returns-in-Err-clause-answers g c =
+    stop_answered (g.H.Shelf.texts c.args.shelf.now) (g.I.Source.left c.args.input.now) c.args.operand.name c.args.operand.message c.in-Err.stop c.stopped.result c.in-Err.ensures.stopped c.stopped.ensures.answers

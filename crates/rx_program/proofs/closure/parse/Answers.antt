@@ -1,0 +1,18 @@
+use Rattle.std.proofs.lemmas.Result.{err_from_is_err_and}
+use Rattle.rx_program.specs.Closure.{IsRefused}
+use Rattle.rx_program.specs.Stop.{IsOfLexer, IsOfParser}
+use Rattle.rx_program.proofs.ClosureLemmas.{refused_for, lexer_refuses, parser_refuses}
+use Rattle.rx_program.proofs.closure.parse.Goals as goal
+
+pub returns-in_err-tokens-clause-refused : goal.returns-in_err-tokens-clause-refused
+returns-in_err-tokens-clause-refused c =
+    let p = err_from_is_err_and c.from_residual.result c.from_residual.ensures.1 in
+    rw (p.1, p.2) (refused_for c.args.name.now (IsOfLexer c.args.text.now) (IsRefused c.args.text.now) c.in_err-tokens.field-0.0 (lexer_refuses c.args.text.now) c.in_err-tokens.ensures.refused)
+
+pub returns-in_err-tree-clause-refused : goal.returns-in_err-tree-clause-refused
+returns-in_err-tree-clause-refused c =
+    let tokens = c.in_ok-tokens.tokens.items.items in
+    let last = c.in_ok-tokens.tokens.end in
+    let p = err_from_is_err_and c.from_residual-in_err-tree.result c.from_residual-in_err-tree.ensures.1 in
+    rw (p.1, p.2)
+    (refused_for c.args.name.now (IsOfParser tokens last) (IsRefused c.args.text.now) c.in_err-tree.field-0.0 (parser_refuses c.args.text.now tokens last c.in_ok-tokens.ensures.tokens) c.in_err-tree.ensures.refused)
