@@ -1,0 +1,8 @@
+pub mod Arrows
+pub mod Ends
+pub mod Grid
+pub mod OnPath
+pub mod Placing
+pub mod Spans
+pub mod Standing
+pub mod Within

@@ -1,0 +1,5 @@
+pub mod Contexts
+pub mod Plain
+pub mod Plan
+pub mod Reading
+pub mod Steps
