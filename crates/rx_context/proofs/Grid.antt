@@ -24,7 +24,7 @@ end-push [] p = refl
 end-push (q ∷ []) p = refl
 end-push (q ∷ r ∷ before) p = end-push (r ∷ before) p
 
-path_on : (m : Graph) (at : Node) (path : List ℕ) (mid : Node) (rest : List ℕ) (end : Node) → IsPath m at path mid → IsPath m mid rest end → IsPath m at (path ++ rest) end
+pub path_on : (m : Graph) (at : Node) (path : List ℕ) (mid : Node) (rest : List ℕ) (end : Node) → IsPath m at path mid → IsPath m mid rest end → IsPath m at (path ++ rest) end
 path_on m at [] mid rest end h k = subst (λ n. IsPath m n rest end) (sym h) k
 path_on m at (i ∷ path) mid rest end h k = (h.0, h.1, h.2, path_on m h.0.target path mid rest end h.3 k)
 
@@ -95,7 +95,7 @@ module _ (domains : List Domain) (m : Graph) (plain : IsPlain domains m) where
   EndsBehind front end = (k : ℤ) × (end ≡ pos (scalar_bits domains m front) +ℤ k *ℤ pos 8)
 
   first_is : (i : ℕ) (link : Arrow) (e : Environment) → IsLink m i link → first_of link e ≡ end_of e.fields
-  first_is i link e is = ap (λ o. value_or o e (end_of e.fields)) (plain.firsts i link is)
+  first_is i link e is = ap (λ o. value_or o e (end_of e.fields)) (plain.links i link is).first
 
   through : (i : ℕ) (link : Arrow) (f : ℕ) → IsLink m i link → link.target ≡ At f → size_through domains m (slice_get m.links i) ≡ size_if_any (type_of domains m f)
   through i link f is target = ap (size_through domains m) is ∙ ap (size_at domains m) target
@@ -107,7 +107,7 @@ module _ (domains : List Domain) (m : Graph) (plain : IsPlain domains m) where
       let even = plain.whole_bytes (front ++ i ∷ []) (At f) there none in
       let same : scalar_bits domains m (front ++ i ∷ []) ≡ scalar_bits domains m front = bits-more front i ∙ ap (λ n. scalar_bits domains m front + n) (through i link f is target ∙ ap size_if_any none) ∙ omega arith in
       let first = whole (scalar_bits domains m front) ends.0 (first_of link e) (ap (λ n. n % 8) (sym same) ∙ even) (first_is i link e is ∙ ends.1) in
-      (first, size_is (limit_of domains m) link.size e (first_of link e) (plain.sizes i link is) first)
+      (first, size_is (limit_of domains m) link.size e (first_of link e) (plain.links i link is).size first)
 
   one_more_by : (t : Option Domain) (n size : ℕ) (k first z : ℤ) → first ≡ pos n +ℤ k *ℤ pos 8 → z ≡ first +ℤ pos size → (k' : ℤ) × (z ≡ pos (n + size) +ℤ k' *ℤ pos 8)
   one_more_by t n size k first z h e = (k, omega (arith, ints, h, e))

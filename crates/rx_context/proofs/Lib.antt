@@ -1,4 +1,6 @@
 pub mod Arrows
+pub mod Operators
+pub mod Chains
 pub mod Ends
 pub mod Grid
 pub mod OnPath

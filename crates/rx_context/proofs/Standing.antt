@@ -25,7 +25,7 @@ pub in_span : (domains : List Domain) (m : Graph) (p : Planned) → StandsFor do
 in_span domains m p s at k a is source =
     subst (λ n. IsInSpan k (span_at p n)) source (s.spans k a (subst (λ g. IsLink g k a) s.graph is))
 
-narrow_if : (domains : List Domain) (m : Graph) (x : Option Tree) → IsAspect domains m x → IsNarrowIfAny (limit_of domains m) x
+pub narrow_if : (domains : List Domain) (m : Graph) (x : Option Tree) → IsAspect domains m x → IsNarrowIfAny (limit_of domains m) x
 narrow_if domains m None h = tt
 narrow_if domains m (Some x) h = h.0.narrow
 

@@ -3,3 +3,4 @@ pub mod Plain
 pub mod Plan
 pub mod Reading
 pub mod Steps
+pub mod Worked

@@ -4,7 +4,7 @@
 --   scalar_bits path          the sizes of the scalars to which the links of a path lead
 --   HasWholeBytes             they are whole bytes before each field of bytes, and on the whole path
 --   IsPlain                   all of these, and no link has a First
-use Rattle.std.specs.Prelude.{◌≡◌, ℕ, ◌+◌, ◌*◌, ◌%◌, ℤ, pos, ◌≤ℤ◌, true, List, [], ◌∷◌, Option, Some, None, slice_get, ◌⊎◌}
+use Rattle.std.specs.Prelude.{◌≡◌, ℕ, ◌+◌, ◌*◌, ◌%◌, ◌<◌, pos, ◌≤ℤ◌, true, List, [], ◌∷◌, Option, Some, None, slice_get, ◌⊎◌}
 use Rattle.rx_types.specs.declared.expr.Operator.TheVariants as op
 use Rattle.rx_types.specs.Domain.{Domain, size_of}
 use Rattle.rx_types.specs.Narrow.{interval_of}
@@ -18,6 +18,10 @@ use Rattle.rx_graph.specs.Graph.{Arrow, Graph, type_of, limit_of}
 -- no node has two links
 abbrev pub HasOneLink : Graph → Type 0
 HasOneLink m = (i j : ℕ) (a b : Arrow) → IsLink m i a → IsLink m j b → a.source ≡ b.source → i ≡ j
+
+-- a link before `end` leads from the node
+abbrev pub HasLinkBefore : List Arrow → ℕ → Node → Type 0
+HasLinkBefore links end node = (i : ℕ) × (link : Arrow) × (i < end) × (slice_get links i ≡ Some link) × (link.source ≡ node)
 
 -- ---- sizes
 
@@ -45,6 +49,11 @@ abbrev pub IsPlainSize : (ℕ → ℕ) → Option Tree → Type 0
 IsPlainSize limit None = Unit {0}
 IsPlainSize limit (Some x) = IsStaticMultiple x ⊎ IsEightTimes limit x
 
+-- no First, and such a Size, if any
+pub record IsPlainLink (limit : ℕ → ℕ) (link : Arrow) : Type 0 where
+  pub first : link.first ≡ None
+  pub size : IsPlainSize limit link.size
+
 -- ---- the path
 
 abbrev pub size_if_any : Option Domain → ℕ
@@ -52,6 +61,9 @@ size_if_any None = 0
 size_if_any (Some t) = size_of t
 
 module _ (domains : List Domain) (m : Graph) where
+  abbrev pub HasPlainLinks : Type 0
+  HasPlainLinks = (i : ℕ) (link : Arrow) → IsLink m i link → IsPlainLink (limit_of domains m) link
+
   -- the size of a node that is a scalar, else 0
   abbrev pub size_at : Node → ℕ
   size_at Start = 0
@@ -78,6 +90,5 @@ module _ (domains : List Domain) (m : Graph) where
 
   pub record IsPlain : Type 0 where
     pub one_link : HasOneLink m
-    pub firsts : (i : ℕ) (link : Arrow) → IsLink m i link → link.first ≡ None
-    pub sizes : (i : ℕ) (link : Arrow) → IsLink m i link → IsPlainSize (limit_of domains m) link.size
+    pub links : HasPlainLinks
     pub whole_bytes : HasWholeBytes

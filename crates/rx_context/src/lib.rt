@@ -2,14 +2,19 @@
 #![tactic(auto)]
 
 mod advance;
+mod bounding;
 mod fault;
 mod kept;
 mod making;
+mod plain;
 mod plan;
 mod step;
+#[cfg(test)]
+mod tests;
 mod verified;
 mod walk;
 
 pub use fault::NoMemory;
+pub use plain::is_plain;
 pub use plan::Plan;
 pub use verified::{Opened, Refused, Verified};
