@@ -3,6 +3,8 @@ pub mod Operators
 pub mod Chains
 pub mod Ends
 pub mod Grid
+pub mod Lookup
+pub mod Nil
 pub mod OnPath
 pub mod Placing
 pub mod Spans

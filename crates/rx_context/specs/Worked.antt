@@ -1,6 +1,7 @@
 -- Messages that the tests make by hand.
 --   to                  a link without a First
 --   boxed, box_domains  a kind that has to be On, a length, so many bytes of data, and the rest
+--   nil                 no fields
 use Rattle.std.specs.Prelude.{ℕ, pos, true, false, List, [], ◌∷◌, Option, Some, None, codes}
 use Rattle.rx_syntax.specs.declared.token.Place.{Place}
 use Rattle.rx_types.specs.declared.expr.Operator.TheVariants as op
@@ -42,3 +43,6 @@ boxed =
       links = to Start (At 0) (Truth true) None ∷ to (At 0) (At 1) (Binary op.Equal (Field 0) (Number (pos 1))) None ∷ to (At 1) (At 2) (Truth true) (Some (Binary op.Mul (Field 1) (Number (pos 8)))) ∷ to (At 2) (At 3) (Truth true) None ∷ to (At 3) Null (Truth true) None ∷ [];
       low_order = false;
     }
+
+abbrev pub nil : Graph
+nil = record { «package» = codes "Nil"; name = codes "M"; fields = []; links = to Start Null (Truth true) None ∷ []; low_order = false }

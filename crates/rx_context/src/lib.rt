@@ -8,6 +8,7 @@ mod kept;
 mod making;
 mod plain;
 mod plan;
+mod slots;
 mod step;
 #[cfg(test)]
 mod tests;

@@ -5,7 +5,7 @@ ghost use Rattle.rx_types.specs.Domain.{Enumeration, domain_of};
 ghost use Rattle.rx_types.specs.Names.{IsName};
 ghost use Rattle.rx_types.specs.Tree.{tree_of, tree_if_any};
 ghost use Rattle.rx_graph.specs.Graph.{arrow_of, arrows, domains_of, graph_of};
-ghost use Rattle.rx_context.specs.Worked.{to, boxed, box_domains, kind_literals, truth_literals};
+ghost use Rattle.rx_context.specs.Worked.{to, boxed, box_domains, kind_literals, truth_literals, nil};
 
 use crate::{NoMemory, Opened, Plan, Verified, is_plain};
 use rx_graph::{Field, Link, Message, Node, Scalar, Spec};
@@ -163,18 +163,31 @@ fn box_plan(alloc: Global) -> Result<Plan, NoMemory> {
 
 // ---- a message without fields
 
-fn nil_plan(alloc: Global) -> Result<Plan, NoMemory> {
-    let mut links = Vec::new(alloc);
-    links.push(link(Node::Start, Node::Null, Expr::Truth(true), None))?;
+fn nil_links(alloc: Global) -> Result<Vec<Link>, NoMemory>
+    ensures { IfOk result (λ all. arrows all.items ≡ nil.links) }
+{
+    let mut all = Vec::new(alloc);
+    all.push(link(Node::Start, Node::Null, Expr::Truth(true), None))?;
+    Ok(all)
+}
+
+fn nil_message(alloc: Global) -> Result<Message, NoMemory>
+    ensures { IfOk result (λ m. graph_of m ≡ nil) }
+{
+    let links = nil_links(alloc)?;
     let package = Name::make(alloc, b"Nil")?;
     let name = Name::make(alloc, b"M")?;
-    let message = Message {
+    Ok(Message {
         package,
         name,
         fields: Vec::new(alloc),
         links,
         low_order: false,
-    };
+    })
+}
+
+fn nil_plan(alloc: Global) -> Result<Plan, NoMemory> {
+    let message = nil_message(alloc)?;
     let spec = box_spec(alloc)?;
     if !is_plain(&message, &spec) {
         return Err(NoMemory);

@@ -2,15 +2,16 @@
 
 ghost use Rattle.std.specs.Prelude.{◌≡◌, ◌*◌, ◌<◌, ◌^◌, ◌/◌, List, Some, None, length, IfOk, IfErr, pos, ◌+ℤ◌, nat_abs, slice_range, IsTrue, ◌↔◌};
 ghost use Rattle.rx_types.specs.Domain.{Domain};
-ghost use Rattle.rx_types.specs.Environment.{place_of, IsAmong};
+ghost use Rattle.rx_types.specs.Environment.{placed, place_of, IsAmong};
 ghost use Rattle.rx_graph.specs.Graph.{Graph, type_of};
 ghost use Rattle.rx_graph.specs.Fits.{content_at, Number, Bytes};
-ghost use Rattle.rx_context.specs.Contexts.{ReadsBy, ReadsNothingBy, StopsBy, IsOnlyReading};
+ghost use Rattle.rx_context.specs.Contexts.{IsReading, ReadsBy, ReadsNothingBy, StopsBy, IsOnlyReading};
 ghost use Rattle.rx_context.specs.Plan.{StandsFor};
 
 use crate::plan::Plan;
+use crate::slots::{find, slots_of};
 use crate::walk::walk;
-use rx_types::{Env, FieldId, Stuck};
+use rx_types::{Entry, Env, FieldId, Stuck};
 use std::marker::Model;
 
 /// A buffer that is to be read by a plan.
@@ -42,6 +43,8 @@ pub struct Verified<'b> {
     bytes: &'b [u8],
     plan: &'b Plan,
     env: Env,
+    // where the entry of each field stands
+    slots: [u8; 128],
 }
 
 impl<'b> Model for Verified<'b> {
@@ -54,10 +57,11 @@ impl<'b> Model for Verified<'b> {
     ghost coded = { Prim.hlevel (codes, e.the_row.coded) };
 
     ghost use Rattle.rx_context.specs.Contexts.{IsReading};
+    ghost use Rattle.rx_context.specs.Slots.{FindsFields};
 
     ghost view = { λ v. record { bytes = v.bytes.now; plan = v.plan.now; fields = v.env.fields } };
 
-    ghost invariant = { λ v. IsReading (record { bytes = v.bytes.now; plan = v.plan.now; fields = v.env.fields }) };
+    ghost invariant = { λ v. IsReading (record { bytes = v.bytes.now; plan = v.plan.now; fields = v.env.fields }) × FindsFields v.env.fields v.slots };
 }
 
 /// A buffer that no path fits, as it was given, and why none fits.
@@ -89,11 +93,15 @@ impl<'b> Opened<'b> {
     {
         let mut env = Env::new(self.bytes.len() as u32);
         match walk(self.plan.kept(), self.bytes, &mut env) {
-            Ok(()) => Ok(Verified {
-                bytes: self.bytes,
-                plan: self.plan,
-                env,
-            }),
+            Ok(()) => {
+                let slots = slots_of(env.entries());
+                Ok(Verified {
+                    bytes: self.bytes,
+                    plan: self.plan,
+                    env,
+                    slots,
+                })
+            }
             Err(stuck) => Err(Refused {
                 context: self,
                 stuck,
@@ -103,11 +111,27 @@ impl<'b> Opened<'b> {
 }
 
 impl<'b> Verified<'b> {
+    // The field's entry, or one of zeros.
+    fn entry(&self, field: FieldId) -> Entry
+        ensures place { placed result ≡ place_of field self.now.fields }
+        ensures reading { IsReading self.now }
+    {
+        match find(self.env.entries(), &self.slots, field) {
+            Some(entry) => entry,
+            None => Entry {
+                field,
+                first: 0,
+                size: 0,
+                number: 0,
+            },
+        }
+    }
+
     /// Whether the field stands on the path.
     pub fn present(&self, field: FieldId) -> bool
         ensures { IsTrue result ↔ IsAmong field self.now.fields }
     {
-        self.env.has(field)
+        find(self.env.entries(), &self.slots, field).is_some()
     }
 
     /// The number of a scalar.
@@ -116,7 +140,7 @@ impl<'b> Verified<'b> {
         ensures number { result ≡ (place_of field self.now.fields).number }
         ensures content { (domains : List Domain) (m : Graph) (t : Domain) → StandsFor domains m self.now.plan → type_of domains m field ≡ Some t → content_at m.low_order (Some t) self.now.bytes (place_of field self.now.fields) ≡ Number result }
     {
-        self.env.entry(field).number
+        self.entry(field).number
     }
 
     /// The bytes of a field that is no scalar.
@@ -127,7 +151,7 @@ impl<'b> Verified<'b> {
         ensures content { (domains : List Domain) (m : Graph) → StandsFor domains m self.now.plan → type_of domains m field ≡ None → content_at m.low_order None self.now.bytes (place_of field self.now.fields) ≡ Bytes result.now }
         ensures size { (domains : List Domain) (m : Graph) → StandsFor domains m self.now.plan → type_of domains m field ≡ None → pos (8 * length result.now) ≡ (place_of field self.now.fields).size }
     {
-        let entry = self.env.entry(field);
+        let entry = self.entry(field);
         let first = entry.first as usize;
         let end = first + entry.size as usize;
         &self.bytes[first / 8..end / 8]
@@ -146,7 +170,7 @@ impl<'b> Verified<'b> {
         ensures first { pos result.0 ≡ (place_of field self.now.fields).first }
         ensures size { pos result.1 ≡ (place_of field self.now.fields).size }
     {
-        let entry = self.env.entry(field);
+        let entry = self.entry(field);
         (entry.first, entry.size)
     }
 
