@@ -1,0 +1,12 @@
+pub mod Arrows
+pub mod Operators
+pub mod Chains
+pub mod Ends
+pub mod Grid
+pub mod Lookup
+pub mod Nil
+pub mod OnPath
+pub mod Placing
+pub mod Spans
+pub mod Standing
+pub mod Within

@@ -1,0 +1,21 @@
+//! Decodes buffers: the fields of the one path that fits a buffer, or why none does.
+#![tactic(auto)]
+
+mod advance;
+mod bounding;
+mod fault;
+mod kept;
+mod making;
+mod plain;
+mod plan;
+mod slots;
+mod step;
+#[cfg(test)]
+mod tests;
+mod verified;
+mod walk;
+
+pub use fault::NoMemory;
+pub use plain::is_plain;
+pub use plan::Plan;
+pub use verified::{Opened, Refused, Verified};

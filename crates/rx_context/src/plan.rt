@@ -1,0 +1,64 @@
+// Plans: what is kept of a message to decode by.
+
+ghost use Rattle.std.specs.Prelude.{◌≡◌, IfOk};
+ghost use Rattle.rx_graph.specs.Elaborated.{IsElaborated};
+ghost use Rattle.rx_graph.specs.Graph.{domains_of, graph_of};
+ghost use Rattle.rx_context.specs.Plain.{IsPlain};
+ghost use Rattle.rx_context.specs.Plan.{planned, IsPlan, StandsFor};
+
+use crate::fault::NoMemory;
+use crate::kept::Kept;
+use crate::making::{kinds_of, spans_of};
+use rx_graph::{Message, Spec};
+use std::alloc::Global;
+use std::marker::Model;
+
+/// What is kept of a message to decode by it.
+#[derive(Drop)]
+pub struct Plan {
+    kept: Kept,
+}
+
+impl Model for Plan {
+    ghost use Rattle.rx_context.specs.Plan.{Planned};
+    ghost use Rattle.rx_types.specs.contracts.expr.Expr as e;
+    ghost use Rattle.std.specs.Coded.{codes};
+
+    ghost Value = { Planned };
+
+    ghost coded = { Prim.hlevel (codes, e.the_row.coded) };
+
+    ghost use Rattle.rx_context.specs.Plan.{planned, IsPlan};
+
+    ghost view = { λ plan. planned plan.kept };
+
+    ghost invariant = { λ plan. IsPlan (planned plan.kept) };
+}
+
+impl Plan {
+    /// The plan of a message that is elaborated with the specification, and plain.
+    pub fn make(alloc: Global, message: &Message, spec: &Spec) -> Result<Plan, NoMemory>
+        requires elaborated { IsElaborated (domains_of spec.now) (graph_of message.now) }
+        requires plain { IsPlain (domains_of spec.now) (graph_of message.now) }
+        ensures { IfOk result (λ plan. StandsFor (domains_of spec.now) (graph_of message.now) plan) }
+    {
+        let kinds = kinds_of(alloc, message, spec)?;
+        let spans = spans_of(alloc, message, spec)?;
+        let message = message.copy(alloc)?;
+        Ok(Plan {
+            kept: Kept {
+                message,
+                kinds,
+                spans,
+            },
+        })
+    }
+
+    // What the plan keeps.
+    pub fn kept(&self) -> &Kept
+        ensures value { planned result.now ≡ self.now }
+        ensures plan { IsPlan self.now }
+    {
+        &self.kept
+    }
+}
