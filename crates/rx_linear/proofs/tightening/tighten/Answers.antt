@@ -3,7 +3,6 @@ use Rattle.std.specs.Int.{w128}
 use Rattle.std.proofs.lemmas.Int.{ints, to_z-of_z}
 use Rattle.rx_linear.specs.declared.row.Row.{Row}
 use Rattle.rx_linear.specs.Rows.{Holds, tight, divisor_of}
-use Rattle.rx_linear.specs.Divisors.{IsCommonDivisor}
 use Rattle.rx_linear.proofs.Divisors.{divisor_divides}
 use Rattle.rx_linear.proofs.Stacked.{same_parts}
 use Rattle.rx_linear.proofs.Soundness.{tight_holds}

@@ -1,4 +1,4 @@
-use Rattle.std.proofs.Common.{◌≡◌, ap, ◌∙◌, subst, ◌<◌, ◌^◌, List, ℤ, arith}
+use Rattle.std.proofs.Common.{ap, ◌∙◌, ◌^◌, arith}
 use Rattle.rx_linear.specs.Rows.{AllBelow}
 use Rattle.rx_linear.specs.Divisors.{common_divisor_of}
 use Rattle.rx_linear.proofs.Divisors.{divisor_below}
