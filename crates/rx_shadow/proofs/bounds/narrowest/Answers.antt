@@ -1,4 +1,4 @@
-use Rattle.std.proofs.Common.{◌≡◌, sym, ap, ◌∙◌, arith, true, false, Bool, ◌&&◌, ◌||◌, ℤ, pos, int_lt, int_le, FitsSigned, to_z, of_z}
+use Rattle.std.proofs.Common.{◌≡◌, sym, ap, ◌∙◌, arith, true, false, ◌&&◌, ◌||◌, ℤ, pos, int_lt, int_le, FitsSigned, to_z, of_z}
 use Rattle.std.specs.Int.{w128}
 use Rattle.std.proofs.lemmas.Int.{to_z-of_z}
 use Rattle.rx_shadow.specs.Bounds.{width}

@@ -1,4 +1,4 @@
-use Rattle.std.proofs.Common.{◌≡◌, sym, ap, subst, ◌∙◌, ℕ, List, true, false, Some, None}
+use Rattle.std.proofs.Common.{◌≡◌, sym, subst, ◌∙◌, true, false}
 use Rattle.std.specs.List.{list_all}
 use Rattle.rx_linear.specs.Joining.{has_no_variable}
 use Rattle.rx_shadow.specs.declared.solving.Solved.TheVariants.{NotSimple}

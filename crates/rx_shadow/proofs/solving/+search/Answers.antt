@@ -1,7 +1,6 @@
-use Rattle.std.proofs.Common.{◌≡◌, refl, sym, ap, subst, ◌∙◌, ℕ, ◌+◌, ◌-◌, ◌<◌, ◌≤◌, List, Bool, true, false, pos, negsuc, Option, Some, suc, ℤ, arith, rules}
+use Rattle.std.proofs.Common.{◌≡◌, refl, sym, ap, subst, ◌∙◌, ℕ, ◌+◌, ◌-◌, ◌<◌, ◌≤◌, List, Bool, true, false, pos, negsuc, Option, Some, suc, ℤ, arith}
 use Rattle.std.specs.List.{list_all, list_any}
 use Rattle.std.specs.Option.{MatchOption}
-use Rattle.rx_linear.specs.declared.row.Row.{Row}
 use Rattle.rx_linear.specs.Joining.{has_no_variable}
 use Rattle.rx_linear.specs.Units.{is_unit_row}
 use Rattle.rx_shadow.specs.declared.known.Known.{Known}

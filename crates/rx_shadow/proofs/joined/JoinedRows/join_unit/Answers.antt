@@ -1,4 +1,4 @@
-use Rattle.std.proofs.Common.{refl, sym, ap, subst}
+use Rattle.std.proofs.Common.{refl, sym, subst}
 use Rattle.rx_linear.specs.Systems.{FitsSystem}
 use Rattle.rx_shadow.proofs.Initial.{tight_fits, wide_from_narrow}
 use Rattle.rx_shadow.proofs.Numbered.{unit_fits}
