@@ -1,0 +1,4 @@
+pub mod Parts
+pub mod Stand
+pub mod Through
+pub mod Types

@@ -1,0 +1,10 @@
+pub mod Distinct
+pub mod Each
+pub mod Forms
+pub mod Known
+pub mod Lows
+pub mod Meanings
+pub mod Products
+pub mod Sizes
+pub mod Sound
+pub mod Tables

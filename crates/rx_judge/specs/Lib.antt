@@ -1,0 +1,9 @@
+pub mod Form
+pub mod Judged
+pub mod Kinds
+pub mod Low
+pub mod Meaning
+pub mod Names
+pub mod Scalar
+pub mod Sound
+pub mod Table

@@ -1,0 +1,3 @@
+pub mod Acyclic
+pub mod Gathering
+pub mod Within

@@ -1,0 +1,4 @@
+pub mod Counts
+pub mod Cycle
+pub mod Links
+pub mod Positions
