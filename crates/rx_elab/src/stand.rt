@@ -190,7 +190,7 @@ fn is_claimed(
     field: Option<&Word>,
     aspect: &AspectTree,
 ) -> Result<bool, NoMemory>
-    ensures { IfOk result (λ b. b ≡ is_claimed known.now (option_copied field) aspect.now) }
+    ensures { IfOk result (λ b. b ≡ is_claimed known.now (option_copied field.entry) aspect.now) }
 {
     match field {
         None => Ok(false),
@@ -207,8 +207,8 @@ fn aspect_stands(
     aspect: &AspectTree,
 ) -> Result<(), Fault>
     requires { index ≤ length aspects.now }
-    ensures meaning { IfOk result (λ x. aspect_stands known.now (option_copied field) aspects.now index aspect.now ≡ Ok x) }
-    ensures refusal { IfErr result (λ e. Tells e (aspect_stands known.now (option_copied field) aspects.now index aspect.now)) }
+    ensures meaning { IfOk result (λ x. aspect_stands known.now (option_copied field.entry) aspects.now index aspect.now ≡ Ok x) }
+    ensures refusal { IfErr result (λ e. Tells e (aspect_stands known.now (option_copied field.entry) aspects.now index aspect.now)) }
 {
     let repeated = is_repeated(&aspects[..index], aspect);
     let elsewhere = is_claimed(alloc, known, field, aspect)?;
@@ -226,8 +226,8 @@ fn aspects_stand(
     field: Option<&Word>,
     aspects: &[AspectTree],
 ) -> Result<(), Fault>
-    ensures meaning { IfOk result (λ x. aspects_stand known.now (option_copied field) aspects.now ≡ Ok x) }
-    ensures refusal { IfErr result (λ e. Tells e (aspects_stand known.now (option_copied field) aspects.now)) }
+    ensures meaning { IfOk result (λ x. aspects_stand known.now (option_copied field.entry) aspects.now ≡ Ok x) }
+    ensures refusal { IfErr result (λ e. Tells e (aspects_stand known.now (option_copied field.entry) aspects.now)) }
 {
     for (index, aspect) in aspects.iter().enumerate() {
         aspect_stands(alloc, known, field, aspects, index, aspect)?;
@@ -255,7 +255,7 @@ fn claim(
     field: Option<&Word>,
     aspects: &[AspectTree],
 ) -> Result<(), NoMemory>
-    ensures { IfOk result (λ x. known.new ≡ claimed known.old (option_copied field) aspects.now) }
+    ensures { IfOk result (λ x. known.new ≡ claimed known.old (option_copied field.entry) aspects.now) }
 {
     if let Some(field) = field {
         add_aspects(alloc, known, field, aspects)?;
