@@ -4,6 +4,7 @@ use Rattle.std.specs.Prelude.{ℕ, Bool, true, false, ◌||◌, List, [], ◌∷
 use Rattle.std.specs.List.{list_any}
 use Rattle.rx_syntax.specs.declared.token.Place.{Place}
 use Rattle.rx_syntax.specs.declared.tree.Named.{Named}
+use Rattle.rx_syntax.specs.declared.tree.HeaderTree.{HeaderTree}
 use Rattle.rx_syntax.specs.declared.tree.PackageTree.{PackageTree}
 use Rattle.rx_syntax.specs.declared.tree.DeclTree.{DeclTree}
 use Rattle.rx_syntax.specs.declared.tree.DeclKind.{DeclKind}
@@ -159,9 +160,16 @@ abbrev pub is_named : Named → Option (List ℕ) → Meaning (Unit {0})
 is_named name None = refused_at 8 name
 is_named name (Some w) = if same w name.word then Ok tt else refused_at 8 name
 
+abbrev pub withs_stand : List (List ℕ) → List Named → Meaning (Unit {0})
+withs_stand asked ws = all_stand_from (λ k w. with_stands asked w) 0 ws
+
+-- the packages that it names, and then its own name
+abbrev pub header_stands : List (List ℕ) → ℕ → HeaderTree → Meaning (Unit {0})
+header_stands asked i h = withs_stand asked h.withs.items >>= (λ u. is_named h.name (slice_get asked i))
+
+-- the declarations, and then the end name
+abbrev pub body_stands : PackageTree → Meaning (Unit {0})
+body_stands p = through declaration_stands built_in p.decls.items >>= (λ k. is_named p.end_name (Some p.header.name.word))
+
 abbrev pub package_stands : List (List ℕ) → ℕ → PackageTree → Meaning (Unit {0})
-package_stands asked i p = do
-  a ← all_stand_from (λ k w. with_stands asked w) 0 p.header.withs.items
-  b ← is_named p.header.name (slice_get asked i)
-  c ← through declaration_stands built_in p.decls.items
-  is_named p.end_name (Some p.header.name.word)
+package_stands asked i p = header_stands asked i p.header >>= (λ u. body_stands p)

@@ -2,13 +2,13 @@
 #![tactic(auto)]
 
 mod fault;
+mod fields;
 mod parts;
 mod stand;
 mod types;
 
 pub use fault::refused_with;
+pub use fields::{Held, fields_held};
 pub use parts::{FieldParts, MessageParts, Parts, message_parts};
 pub use stand::{Declared, Seen, package_stands};
-pub use types::{
-    KnownScalar, KnownType, Types, built_in_types, package_types, type_named,
-};
+pub use types::{KnownScalar, KnownType, Types, built_in_types, package_types, type_named};

@@ -90,7 +90,7 @@ fn is_scalar_target(
     scope: &Scope<'_>,
     target: Option<&Word>,
 ) -> Result<bool, NoMemory>
-    ensures { IfOk result (λ b. b ≡ is_scalar_target (scope_of scope.now) (option_copied target)) }
+    ensures { IfOk result (λ b. b ≡ is_scalar_target (scope_of scope.now) (option_copied target.entry)) }
 {
     match target {
         None => Ok(false),

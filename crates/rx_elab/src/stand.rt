@@ -7,12 +7,12 @@ ghost use Rattle.std.specs.Str.{IsAscii};
 ghost use Rattle.rx_judge.specs.Meaning.{Tells, all_stand_from};
 ghost use Rattle.rx_judge.specs.Names.{same};
 ghost use Rattle.rx_elab.specs.Through.{through};
-ghost use Rattle.rx_elab.specs.Stand.{fresh, knowing, literal_fresh, enum_aspect_name, enum_aspect_place, same_enum_aspect, enum_aspect_stands, enumeration_stands, aspect_name, aspect_place, same_aspect, with_aspects, is_claimed, claimed, aspect_stands, aspects_stand, then_stands, field_stands, no_fields, message_stands, definition_stands, kind_stands, declaration_stands, built_in, with_stands, is_named, package_stands};
+ghost use Rattle.rx_elab.specs.Stand.{fresh, knowing, literal_fresh, enum_aspect_name, enum_aspect_place, same_enum_aspect, enum_aspect_stands, enumeration_stands, aspect_name, aspect_place, same_aspect, with_aspects, is_claimed, claimed, aspect_stands, aspects_stand, then_stands, field_stands, no_fields, message_stands, definition_stands, kind_stands, declaration_stands, built_in, with_stands, withs_stand, is_named, header_stands, body_stands, package_stands};
 
 use crate::fault::refused_with;
 use rx_judge::{Fault, NoMemory, Table, refused_at};
 use rx_syntax::{
-    AspectTree, DeclKind, DeclTree, DefTree, EnumAspect, FieldTree, LiteralTree, MessageTree,
+    AspectTree, DeclKind, DeclTree, DefTree, EnumAspect, FieldTree, HeaderTree, LiteralTree, MessageTree,
     Named, PackageTree, Place, ThenTree, Word,
 };
 use rx_types::Name;
@@ -190,7 +190,7 @@ fn is_claimed(
     field: Option<&Word>,
     aspect: &AspectTree,
 ) -> Result<bool, NoMemory>
-    ensures { IfOk result (λ b. b ≡ is_claimed known.now (option_copied field) aspect.now) }
+    ensures { IfOk result (λ b. b ≡ is_claimed known.now (option_copied field.entry) aspect.now) }
 {
     match field {
         None => Ok(false),
@@ -207,8 +207,8 @@ fn aspect_stands(
     aspect: &AspectTree,
 ) -> Result<(), Fault>
     requires { index ≤ length aspects.now }
-    ensures meaning { IfOk result (λ x. aspect_stands known.now (option_copied field) aspects.now index aspect.now ≡ Ok x) }
-    ensures refusal { IfErr result (λ e. Tells e (aspect_stands known.now (option_copied field) aspects.now index aspect.now)) }
+    ensures meaning { IfOk result (λ x. aspect_stands known.now (option_copied field.entry) aspects.now index aspect.now ≡ Ok x) }
+    ensures refusal { IfErr result (λ e. Tells e (aspect_stands known.now (option_copied field.entry) aspects.now index aspect.now)) }
 {
     let repeated = is_repeated(&aspects[..index], aspect);
     let elsewhere = is_claimed(alloc, known, field, aspect)?;
@@ -226,8 +226,8 @@ fn aspects_stand(
     field: Option<&Word>,
     aspects: &[AspectTree],
 ) -> Result<(), Fault>
-    ensures meaning { IfOk result (λ x. aspects_stand known.now (option_copied field) aspects.now ≡ Ok x) }
-    ensures refusal { IfErr result (λ e. Tells e (aspects_stand known.now (option_copied field) aspects.now)) }
+    ensures meaning { IfOk result (λ x. aspects_stand known.now (option_copied field.entry) aspects.now ≡ Ok x) }
+    ensures refusal { IfErr result (λ e. Tells e (aspects_stand known.now (option_copied field.entry) aspects.now)) }
 {
     for (index, aspect) in aspects.iter().enumerate() {
         aspect_stands(alloc, known, field, aspects, index, aspect)?;
@@ -255,7 +255,7 @@ fn claim(
     field: Option<&Word>,
     aspects: &[AspectTree],
 ) -> Result<(), NoMemory>
-    ensures { IfOk result (λ x. known.new ≡ claimed known.old (option_copied field) aspects.now) }
+    ensures { IfOk result (λ x. known.new ≡ claimed known.old (option_copied field.entry) aspects.now) }
 {
     if let Some(field) = field {
         add_aspects(alloc, known, field, aspects)?;
@@ -317,14 +317,14 @@ fn no_fields(alloc: Global) -> Result<Seen, NoMemory>
     })
 }
 
-fn message_stands(alloc: Global, message: &MessageTree) -> Result<(), Fault>
-    ensures meaning { IfOk result (λ x. (s : Seen) × (message_stands message.now ≡ Ok s)) }
+fn message_stands(alloc: Global, message: &MessageTree) -> Result<Seen, Fault>
+    ensures meaning { IfOk result (λ s. message_stands message.now ≡ Ok s) }
     ensures refusal { IfErr result (λ e. Tells e (message_stands message.now)) }
 {
     let mut seen = no_fields(alloc)?;
     thens_stand(alloc, &mut seen, &message.start)?;
     fields_stand(alloc, &mut seen, &message.fields)?;
-    Ok(())
+    Ok(seen)
 }
 
 // ---- packages
@@ -341,7 +341,10 @@ fn definition_stands(
         DefTree::Enumeration(trees, aspects) => {
             enumeration_stands(alloc, literals, trees, aspects)
         }
-        DefTree::Message(message) => message_stands(alloc, message),
+        DefTree::Message(message) => {
+            let _seen = message_stands(alloc, message)?;
+            Ok(())
+        }
         _ => Ok(()),
     }
 }
@@ -414,8 +417,8 @@ fn with_stands(alloc: Global, asked: &[Name], with: &Named) -> Result<(), Fault>
 }
 
 fn withs_stand(alloc: Global, asked: &[Name], withs: &[Named]) -> Result<(), Fault>
-    ensures meaning { IfOk result (λ x. all_stand_from (λ k w. with_stands asked.now w) 0 withs.now ≡ Ok x) }
-    ensures refusal { IfErr result (λ e. Tells e (all_stand_from (λ k w. with_stands asked.now w) 0 withs.now)) }
+    ensures meaning { IfOk result (λ x. withs_stand asked.now withs.now ≡ Ok x) }
+    ensures refusal { IfErr result (λ e. Tells e (withs_stand asked.now withs.now)) }
 {
     for with in withs {
         with_stands(alloc, asked, with)?;
@@ -448,6 +451,38 @@ fn is_ended(alloc: Global, end: &Named, word: &Word) -> Result<(), Fault>
     Ok(())
 }
 
+fn header_stands(
+    alloc: Global,
+    asked: &[Name],
+    index: usize,
+    header: &HeaderTree,
+) -> Result<(), Fault>
+    ensures meaning { IfOk result (λ x. header_stands asked.now index header.now ≡ Ok x) }
+    ensures refusal { IfErr result (λ e. Tells e (header_stands asked.now index header.now)) }
+{
+    withs_stand(alloc, asked, &header.withs)?;
+    is_fetched(alloc, asked, index, &header.name)?;
+    Ok(())
+}
+
+fn all_declarations_stand(alloc: Global, decls: &[DeclTree]) -> Result<Declared, Fault>
+    ensures meaning { IfOk result (λ k. through declaration_stands built_in decls.now ≡ Ok k) }
+    ensures refusal { IfErr result (λ e. Tells e (through declaration_stands built_in decls.now)) }
+{
+    let mut declared = built_in(alloc)?;
+    declarations_stand(alloc, &mut declared, decls)?;
+    Ok(declared)
+}
+
+fn body_stands(alloc: Global, package: &PackageTree) -> Result<(), Fault>
+    ensures meaning { IfOk result (λ x. body_stands «package».now ≡ Ok x) }
+    ensures refusal { IfErr result (λ e. Tells e (body_stands «package».now)) }
+{
+    let _declared = all_declarations_stand(alloc, &package.decls)?;
+    is_ended(alloc, &package.end_name, &package.header.name.word)?;
+    Ok(())
+}
+
 /// The first pass over a package: 8 at a `with` clause whose package was not fetched, at a name of the package that is
 /// not the one under which it was fetched, and at an end name that is not its own; 9 at a second declaration or aspect.
 pub fn package_stands(
@@ -459,9 +494,7 @@ pub fn package_stands(
     ensures meaning { IfOk result (λ x. package_stands asked.now index «package».now ≡ Ok x) }
     ensures refusal { IfErr result (λ e. Tells e (package_stands asked.now index «package».now)) }
 {
-    withs_stand(alloc, asked, &package.header.withs)?;
-    is_fetched(alloc, asked, index, &package.header.name)?;
-    let mut declared = built_in(alloc)?;
-    declarations_stand(alloc, &mut declared, &package.decls)?;
-    is_ended(alloc, &package.end_name, &package.header.name.word)
+    header_stands(alloc, asked, index, &package.header)?;
+    body_stands(alloc, package)?;
+    Ok(())
 }

@@ -5,6 +5,7 @@ ghost use Rattle.std.specs.List.{list_any};
 ghost use Rattle.rx_types.specs.Domain.{domain_of, greatest, numbers_of, greatest_of, boolean};
 ghost use Rattle.rx_graph.specs.Graph.{named_domain_of};
 ghost use Rattle.rx_judge.specs.Meaning.{Tells};
+ghost use Rattle.rx_judge.specs.Names.{same};
 ghost use Rattle.rx_judge.specs.Scalar.{IsMeasured};
 ghost use Rattle.rx_elab.specs.Through.{through};
 ghost use Rattle.rx_elab.specs.Types.{kind_declared, known_scalar, with_literals, with_literals_of, with_scalar, with_other, defined, type_declared, package_types, built_in_types, own_type, is_visible_in, type_named, types_of};

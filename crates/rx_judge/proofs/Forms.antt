@@ -8,11 +8,11 @@ use Rattle.std.proofs.lemmas.Int.{ints}
 use Rattle.std.proofs.lemmas.Bool.Decides.{nat_tests}
 use Rattle.rx_types.specs.declared.expr.Operator.{Operator}
 use Rattle.rx_types.specs.declared.expr.Operator.TheVariants as op
-use Rattle.rx_types.specs.Coefficients.{Unknown, NumberOf, FirstOf, LastOf, SizeOf, Bits, coefficient_of, coefficient_by, quotient_coefficients, quotients_by}
+use Rattle.rx_types.specs.Coefficients.{Unknown, NumberOf, FirstOf, LastOf, SizeOf, Bits, coefficient_of, quotient_coefficients}
 use Rattle.rx_types.specs.Static.{is_static, static_value}
 use Rattle.rx_types.specs.Tree.{Tree, Number, Truth, Field, First, Last, Size, Total, Neg, Not, Binary}
 use Rattle.rx_judge.specs.Low.{unknowns_in, unknowns_by, is_low, are_low}
-use Rattle.std.specs.List.{All, AllByRecursion}
+use Rattle.std.specs.List.{AllByRecursion}
 use Rattle.std.proofs.lemmas.List.Elements.{All-from_recursion, recursion_from_All}
 use Rattle.rx_types.specs.Coefficients.{IsLow}
 use Rattle.rx_judge.specs.Form.{IsLowForm}

@@ -1,12 +1,11 @@
 -- What is kept of an expression, operator by operator.
-use Rattle.std.proofs.Common.{◌≡◌, ◌∙◌, ap, sym, refl, subst, ℕ, Bool, true, false, ◌&&◌, List, [], ◌∷◌, ◌++◌, map, Option, Some, None, arith}
+use Rattle.std.proofs.Common.{◌≡◌, ◌∙◌, ap, sym, refl, subst, ℕ, Bool, true, false, ◌&&◌, List, [], ◌∷◌, ◌++◌, map, Option, Some, None}
 use Rattle.std.specs.Prelude.{ℤ, pos, negsuc, neg_ℤ, ◌*ℤ◌}
-use Rattle.std.specs.List.{All}
 use Rattle.std.proofs.lemmas.List.Elements.{All-nil}
 use Rattle.rx_types.specs.declared.interval.Interval.{Interval}
 use Rattle.rx_types.specs.declared.expr.Operator.{Operator}
 use Rattle.rx_types.specs.Coefficients.{IsLow}
-use Rattle.rx_types.specs.Narrow.{single, negation, interval_of, interval_by, narrow_by, is_divisor_in, is_short, if_short, IsShort}
+use Rattle.rx_types.specs.Narrow.{single, negation, interval_of, interval_by, is_divisor_in, is_short, IsShort}
 use Rattle.rx_types.specs.Static.{is_arithmetic, is_static, static_value}
 use Rattle.rx_types.specs.Tree.{Tree, Number, Neg, Binary}
 use Rattle.rx_types.proofs.Statics.{static_everywhere}
@@ -18,7 +17,7 @@ use Rattle.rx_judge.specs.declared.form.LinearForm.{LinearForm}
 use Rattle.rx_judge.proofs.Forms.{negative_form, minus_low_form}
 use Rattle.rx_judge.proofs.Sound.{narrow_facts, short_if, three, three_back, about_ok}
 use Rattle.rx_judge.proofs.Forms.{left_form, right_form, remainder_form, low_same}
-use Rattle.std.specs.Prelude.{◌||◌, int_lt, Ok, Err, if◌then◌else◌}
+use Rattle.std.specs.Prelude.{◌||◌, int_lt, Ok, Err}
 use Rattle.std.specs.List.{list_all}
 use Rattle.rx_syntax.specs.declared.token.Place.{Place}
 use Rattle.rx_types.specs.declared.expr.Operator.TheVariants as op

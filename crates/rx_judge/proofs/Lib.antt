@@ -3,6 +3,7 @@ pub mod Each
 pub mod Forms
 pub mod Known
 pub mod Lows
+pub mod Measured
 pub mod Meanings
 pub mod Products
 pub mod Sizes

@@ -1,8 +1,7 @@
 -- Meanings step by step.
-use Rattle.std.proofs.Common.{◌≡◌, ap, refl, Bool, true, false, not, Option, Some, None, Result, Ok, Err}
+use Rattle.std.proofs.Common.{◌≡◌, refl, Bool, true, false, not, Result, Ok, Err}
 use Rattle.std.specs.Prelude.{if◌then◌else◌}
 use Rattle.rx_judge.specs.Meaning.{Meaning, ◌>>=◌, Tells}
-use Rattle.rx_judge.specs.declared.fault.Refusal.{Refusal}
 use Rattle.rx_judge.specs.declared.fault.Fault.{Fault}
 use Rattle.rx_judge.specs.declared.fault.Fault.TheVariants.{Refused, NoMemory}
 

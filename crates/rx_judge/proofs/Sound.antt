@@ -1,5 +1,5 @@
 -- What comes out is typed, linear and narrow.
-use Rattle.std.proofs.Common.{◌≡◌, ◌∙◌, ap, sym, refl, subst, ℕ, ◌^◌, ◌<◌, ◌≤◌, ◌+◌, Bool, true, false, not, ◌&&◌, ◌||◌, List, [], ◌∷◌, Option, Some, None, Ok, Err, ◌⊎◌, inl, inr, arith}
+use Rattle.std.proofs.Common.{◌≡◌, ◌∙◌, ap, sym, refl, subst, ℕ, ◌^◌, ◌<◌, ◌≤◌, ◌+◌, Bool, true, false, not, ◌&&◌, ◌||◌, List, [], Option, Some, None, Ok, Err, ◌⊎◌, inl, inr, arith}
 use Rattle.std.specs.Prelude.{ℤ, pos, neg_ℤ, ◌<ℤ◌, codes, int_lt, ◌-◌, if◌then◌else◌}
 use Rattle.std.proofs.lemmas.Int.{ints}
 use Rattle.std.proofs.lemmas.Bool.Decides.{nat_tests}
@@ -16,7 +16,7 @@ use Rattle.rx_types.specs.declared.expr.Operator.{Operator}
 use Rattle.rx_types.specs.declared.expr.Operator.TheVariants as op
 use Rattle.rx_types.specs.declared.kind.Kind.{Kind}
 use Rattle.rx_types.specs.declared.kind.Kind.TheVariants as kind
-use Rattle.rx_types.specs.Kinds.{HasKind, Takes, AreComparable, IsSpelled, kind_by}
+use Rattle.rx_types.specs.Kinds.{HasKind, Takes, AreComparable, IsSpelled}
 use Rattle.rx_types.specs.Narrow.{from_to, single, truths, negation, is_short, is_divisor_in, if_short, narrow_by, interval_by, interval_of, IsShort, IsNarrow}
 use Rattle.rx_types.specs.Static.{is_static, static_value, is_arithmetic, IsLinearIn, IsStaticDivisor, operators_in, is_last_of_message}
 use Rattle.rx_types.specs.Tree.{Tree, Number, Truth, Field, First, Last, Size, Total, Neg, Not, Binary}
@@ -24,7 +24,7 @@ use Rattle.rx_types.proofs.Short.{short_facts, divisor_in_facts}
 use Rattle.rx_types.proofs.Statics.{static_everywhere}
 use Rattle.rx_judge.specs.Meaning.{Meaning, ◌>>=◌, refused, refused_at}
 use Rattle.rx_judge.specs.Names.{Scope, Names, Nothing, Within, same, known, thing_of, thing_in, own_thing, field_named, literal_named, truth_named, is_visible}
-use Rattle.rx_judge.specs.Table.{Entry, found}
+use Rattle.rx_judge.specs.Table.{found}
 use Rattle.rx_judge.specs.Kinds.{operator_of, is_number, is_truth, same_kind, are_comparable, takes, is_linear, is_static_divisor, bounds_by, power, about_both, tree_by}
 use Rattle.rx_judge.specs.Low.{are_low}
 use Rattle.rx_judge.specs.Judged.{Typed, judged, joined, lowness, narrow, about_by, plain, spelled_truth, static_number, value_of_field, value_of_thing, attribute_of_thing, attribute_of_message, is_message, name_as_value, name_with_attribute, name_with_member, negative, opposite}

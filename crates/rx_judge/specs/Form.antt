@@ -2,7 +2,7 @@
 --   HasForm form x         the form has the coefficients of the expression
 --   IsLowForm form         all its coefficients are low
 --   IsKnown about form x   what is kept of an expression holds of it
-use Rattle.std.specs.Prelude.{◌≡◌, ℕ, Bool, true, false, ◌==◌, List, [], ◌∷◌, map, ℤ, pos, ◌+ℤ◌, ◌*ℤ◌, All, if◌then◌else◌}
+use Rattle.std.specs.Prelude.{◌≡◌, Bool, true, false, ◌==◌, List, [], ◌∷◌, map, ℤ, pos, ◌+ℤ◌, ◌*ℤ◌, All, if◌then◌else◌}
 use Rattle.rx_types.specs.Coefficients.{IsLow, NumberOf, FirstOf, LastOf, SizeOf, Bits, coefficient_of, quotient_coefficients}
 use Rattle.rx_types.specs.Coefficients as spec
 use Rattle.rx_types.specs.Narrow.{IsShort, single}

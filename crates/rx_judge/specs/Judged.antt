@@ -24,7 +24,6 @@ use Rattle.rx_judge.specs.Kinds.{operator_of, is_number, is_truth, takes, is_lin
 use Rattle.rx_judge.specs.Low.{are_low}
 use Rattle.rx_judge.specs.declared.names.Thing.{Thing}
 use Rattle.rx_judge.specs.declared.names.Thing.TheVariants as thing
-use Rattle.rx_judge.specs.declared.names.KnownField.{KnownField}
 use Rattle.rx_judge.specs.declared.names.FieldKind.{FieldKind}
 use Rattle.rx_judge.specs.declared.names.FieldKind.TheVariants as field_kind
 use Rattle.rx_judge.specs.declared.about.About.{About}

@@ -3,7 +3,7 @@
 --   is_linear o l r        what it divides or multiplies by is static
 --   bounds_by o i j        the interval of its result, if it is narrow
 --   about_both o l r i     what is known of its result
-use Rattle.std.specs.Prelude.{ℕ, Bool, true, false, not, ◌&&◌, ◌||◌, ◌==◌, Option, Some, None, ℤ, pos, int_lt, int_le, nat_abs}
+use Rattle.std.specs.Prelude.{Bool, true, false, not, ◌&&◌, ◌||◌, ◌==◌, Option, Some, None, ℤ, pos, int_lt, int_le, nat_abs}
 use Rattle.std.specs.Int.{int_pow}
 use Rattle.rx_syntax.specs.declared.tree.Operator.{Operator}
 use Rattle.rx_syntax.specs.declared.tree.Operator.TheVariants as token

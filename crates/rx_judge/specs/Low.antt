@@ -1,7 +1,7 @@
 -- Whether the coefficients of an expression's linear form are below 2 ^ 20 in magnitude, as a test.
 --   unknowns_in x        the unknowns of the linear form that are leaves, as they stand in the expression
 --   are_low x            the coefficients of all unknowns are low
-use Rattle.std.specs.Prelude.{ℕ, ◌^◌, Bool, ◌&&◌, List, [], ◌∷◌, ◌++◌, ℤ, pos, neg_ℤ, int_lt}
+use Rattle.std.specs.Prelude.{◌^◌, Bool, ◌&&◌, List, [], ◌∷◌, ◌++◌, ℤ, pos, neg_ℤ, int_lt}
 use Rattle.std.specs.List.{list_all}
 use Rattle.rx_types.specs.declared.expr.Operator.{Operator}
 use Rattle.rx_types.specs.declared.expr.Operator.TheVariants as op

@@ -4,7 +4,7 @@
 --   Tells e m                    the fault is the meaning's refusal, or want of memory
 --   each_from f n xs             the meanings of all items, in order; item i is f (n + i)
 --   all_stand_from f n xs        the same of items that only stand or are refused
-use Rattle.std.specs.Prelude.{◌≡◌, ℕ, ◌+◌, List, [], ◌∷◌, Option, Some, None, Result, Ok, Err, Bool, if◌then◌else◌}
+use Rattle.std.specs.Prelude.{◌≡◌, ℕ, ◌+◌, List, [], ◌∷◌, Result, Ok, Err, Bool, if◌then◌else◌}
 use Rattle.rx_syntax.specs.declared.token.Place.{Place}
 use Rattle.rx_syntax.specs.declared.tree.Named.{Named}
 use Rattle.rx_judge.specs.declared.fault.Refusal.{Refusal}

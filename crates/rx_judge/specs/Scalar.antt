@@ -1,8 +1,9 @@
 -- What the definition of a scalar type means.
 --   static_value owner e          the value of an expression of numbers alone
 --   definition name def           the scalar type that a definition defines, if it defines one
-use Rattle.std.specs.Prelude.{ℕ, ◌-◌, ◌^◌, Bool, true, false, not, ◌&&◌, List, [], ◌∷◌, Option, Some, None, Ok, if◌then◌else◌, ℤ, pos, int_lt, int_le, nat_abs, slice_get}
-use Rattle.std.specs.List.{list_all, list_any}
+--   IsMeasured d                  its numbers are those of its size, which is 1 to 63 bits
+use Rattle.std.specs.Prelude.{◌≢◌, ℕ, ◌-◌, ◌^◌, ◌<◌, ◌≤◌, length, Bool, true, false, not, ◌&&◌, List, [], ◌∷◌, Option, Some, None, Ok, if◌then◌else◌, ℤ, pos, int_lt, int_le, nat_abs, slice_get}
+use Rattle.std.specs.List.{list_all, list_any, AllByRecursion}
 use Rattle.std.specs.Ordering.{int_eq}
 use Rattle.rx_syntax.specs.declared.token.Place.{Place}
 use Rattle.rx_syntax.specs.declared.tree.Named.{Named}
@@ -14,7 +15,7 @@ use Rattle.rx_syntax.specs.declared.tree.EnumAspect.TheVariants as aspect
 use Rattle.rx_syntax.specs.declared.tree.DefTree.{DefTree}
 use Rattle.rx_syntax.specs.declared.tree.DefTree.TheVariants as def
 use Rattle.rx_types.specs.declared.scalar.Literal.{Literal}
-use Rattle.rx_types.specs.Domain.{Domain, Integer, Enumeration}
+use Rattle.rx_types.specs.Domain.{Domain, Integer, Enumeration, EachPair}
 use Rattle.rx_types.specs.Names.{is_name_byte}
 use Rattle.rx_judge.specs.Meaning.{Meaning, ◌>>=◌, refused_at, refused, each_from}
 use Rattle.rx_judge.specs.Names.{Nothing}
@@ -137,3 +138,13 @@ definition name (def.Unsigned e) = unsigned name e >>= (λ s. Ok (Some s))
 definition name (def.Range a b n) = range name a b n >>= (λ s. Ok (Some s))
 definition name (def.Enumeration ls xs) = enumeration name ls.items xs.items >>= (λ s. Ok (Some s))
 definition name other = Ok None
+
+-- at least one literal, each with a number of its own below 2 to the size
+pub record AreMeasured (literals : List Literal) (size : ℕ) : Type 0 where
+  pub some : 0 < length literals
+  pub below : AllByRecursion (λ l. l.number < 2 ^ size) literals
+  pub numbers : EachPair (λ a b. a.number ≢ b.number) literals
+
+abbrev pub IsMeasured : Domain → Type 0
+IsMeasured (Integer first last size) = (0 < size) × (size < 64) × (first ≤ last) × (last < 2 ^ size)
+IsMeasured (Enumeration literals size always_valid) = (0 < size) × (size < 64) × AreMeasured literals size

@@ -3,7 +3,7 @@
 --   FitNames                  the fields and literals that names stand for have these kinds and limits
 --   IsSound                   an expression of the text, and what it means
 --   MeaningIsSound            whatever an expression means is sound
-use Rattle.std.specs.Prelude.{◌≡◌, ℕ, ◌+◌, ◌<◌, ◌≤◌, ◌^◌, true, pos, Option, Some, Ok, List, []}
+use Rattle.std.specs.Prelude.{◌≡◌, ℕ, ◌+◌, ◌<◌, ◌≤◌, ◌^◌, true, Option, Some, Ok, List, []}
 use Rattle.rx_syntax.specs.declared.tree.ExprTree.{ExprTree}
 use Rattle.rx_syntax.specs.declared.tree.ExprTree.TheVariants as tree
 use Rattle.rx_types.specs.declared.kind.Kind.{Kind}

@@ -1,12 +1,12 @@
 //! What the definition of a scalar type means.
 
-ghost use Rattle.std.specs.Prelude.{◌≡◌, ◌^◌, IfOk, IfErr, pos, map, slice_get, true};
+ghost use Rattle.std.specs.Prelude.{◌≡◌, ◌^◌, IfOk, IfErr, IfSome, pos, slice_get, true};
 ghost use Rattle.std.specs.List.{list_all};
 ghost use Rattle.std.specs.Option.{option_map};
 ghost use Rattle.rx_types.specs.Domain.{domain_of};
 ghost use Rattle.rx_types.specs.Names.{is_name_byte};
 ghost use Rattle.rx_judge.specs.Meaning.{Tells, each_from};
-ghost use Rattle.rx_judge.specs.Scalar.{root_place, spelled, static_value, is_size, unsigned, is_range, range, number_of_literal, numbers_of, size_of_aspect, size_of_aspects, first_some, always_valid, are_numbers, is_distinct, number_at, literal_at, are_literals, enumeration, definition};
+ghost use Rattle.rx_judge.specs.Scalar.{root_place, spelled, static_value, is_size, unsigned, is_range, range, number_of_literal, numbers_of, size_of_aspect, size_of_aspects, first_some, always_valid, are_numbers, is_distinct, number_at, literal_at, are_literals, enumeration, definition, IsMeasured};
 
 use crate::about;
 use crate::fault::{Fault, NoMemory, refused, refused_at};
@@ -289,9 +289,9 @@ fn enumeration(
     })
 }
 
-/// The scalar type of a definition, if it is one. Its expressions are of numbers alone (10 to 13), an enumeration has
-/// its Size (14), and the numbers are those of its size (20).
-pub fn definition(alloc: Global, name: &Named, def: &DefTree) -> Result<Option<ScalarType>, Fault>
+// The scalar type of a definition, if it is one. Its expressions are of numbers alone (10 to 13), an enumeration has
+// its Size (14), and the numbers are those of its size (20).
+fn defined(alloc: Global, name: &Named, def: &DefTree) -> Result<Option<ScalarType>, Fault>
     ensures meaning { IfOk result (λ s. definition name.now def.now ≡ Ok (option_map domain_of s)) }
     ensures refusal { IfErr result (λ e. Tells e (definition name.now def.now)) }
 {
@@ -310,4 +310,15 @@ pub fn definition(alloc: Global, name: &Named, def: &DefTree) -> Result<Option<S
         }
         _ => Ok(None),
     }
+}
+
+/// The scalar type of a definition, if it is one. Its expressions are of numbers alone (10 to 13), an enumeration has
+/// its Size (14), and the numbers are those of its size (20).
+pub fn definition(alloc: Global, name: &Named, def: &DefTree) -> Result<Option<ScalarType>, Fault>
+    ensures meaning { IfOk result (λ s. definition name.now def.now ≡ Ok (option_map domain_of s)) }
+    ensures refusal { IfErr result (λ e. Tells e (definition name.now def.now)) }
+    ensures measured { IfOk result (λ s. IfSome s (λ t. IsMeasured (domain_of t))) }
+{
+    let scalar = defined(alloc, name, def)?;
+    Ok(scalar)
 }

@@ -6,6 +6,8 @@ mod cycle;
 mod law;
 mod links;
 mod names;
+#[cfg(test)]
+mod tests;
 
 pub use counts::counts_stand;
 pub use cycle::no_cycle;

@@ -1,5 +1,5 @@
 use Rattle.std.proofs.Common.{◌≡◌, ◌∙◌, refl, arith, slice_index_or}
-use Rattle.std.specs.Prelude.{ℤ, pos, ◌*ℤ◌}
+use Rattle.std.specs.Prelude.{pos, ◌*ℤ◌}
 use Rattle.std.proofs.lemmas.Int.{ints}
 use Rattle.rx_judge.specs.Form.{scaled_number}
 use Rattle.rx_judge.proofs.Products.{passed, product_fits, passed_product, map_more}

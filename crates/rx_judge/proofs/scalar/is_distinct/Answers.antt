@@ -1,5 +1,5 @@
-use Rattle.std.proofs.Common.{◌≡◌, ◌∙◌, sym, refl, true, false, arith, take, slice_index_or, get_or}
-use Rattle.std.specs.Prelude.{ℤ, pos}
+use Rattle.std.proofs.Common.{◌≡◌, ◌∙◌, sym, true, false, arith, slice_index_or}
+use Rattle.std.specs.Prelude.{pos}
 use Rattle.std.proofs.lemmas.Int.{ints}
 use Rattle.rx_judge.specs.Scalar.{is_among}
 use Rattle.rx_judge.proofs.Distinct.{start, again, new, one_more}

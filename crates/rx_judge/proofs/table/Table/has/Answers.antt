@@ -1,4 +1,4 @@
-use Rattle.std.proofs.Common.{◌∙◌, ap, sym}
+use Rattle.std.proofs.Common.{◌∙◌, ap}
 use Rattle.rx_judge.specs.Table.{has}
 use Rattle.rx_judge.proofs.Tables.{lookup_has}
 use Rattle.rx_judge.proofs.table.Table.has.Goals as goal
