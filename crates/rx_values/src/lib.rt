@@ -1,0 +1,17 @@
+//! Values of fields, and valuations as JSON, both ways.
+#![tactic(auto)]
+
+mod fault;
+mod fields;
+mod laws;
+mod printing;
+mod reading;
+#[cfg(test)]
+mod tests;
+mod valuation;
+
+pub use fault::{NoMemory, ValueFault};
+pub use laws::printed_reads_back;
+pub use printing::to_json;
+pub use reading::from_json;
+pub use valuation::{Valuation, Value};
