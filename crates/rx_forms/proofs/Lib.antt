@@ -1,0 +1,12 @@
+pub mod Along
+pub mod Carrying
+pub mod Conditions
+pub mod Extension
+pub mod Matching
+pub mod Quotients
+pub mod Rows
+pub mod Sums
+pub mod Tests
+pub mod Typed
+pub mod Values
+pub mod Whole
