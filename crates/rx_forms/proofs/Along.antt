@@ -1,5 +1,5 @@
 -- The rows along a path hold exactly where the path is partial.
-use Rattle.std.proofs.Common.{◌≡◌, refl, sym, ap, subst, ◌∙◌, ℕ, ◌+◌, ◌*◌, ◌<◌, ◌^◌, arith, List, [], ◌∷◌, ◌++◌, length, Bool, true, false, ◌||◌, ◌&&◌, if◌then◌else◌, ◌==◌, get_or, int_le, ℤ, pos, ◌+ℤ◌, ◌-ℤ◌, ◌≤ℤ◌, Option, Some, None, ◌⊎◌, inl, inr, append_assoc, append-nil, ◌↔◌}
+use Rattle.std.proofs.Common.{◌≡◌, refl, sym, ap, subst, ◌∙◌, ℕ, ◌+◌, ◌*◌, ◌<◌, ◌^◌, arith, List, [], ◌∷◌, ◌++◌, Bool, true, false, if◌then◌else◌, ◌==◌, get_or, int_le, ℤ, pos, ◌+ℤ◌, ◌-ℤ◌, ◌≤ℤ◌, Option, Some, None, inl, inr, append_assoc, append-nil, ◌↔◌}
 use Rattle.std.specs.Prelude.{slice_get}
 use Rattle.std.specs.List.{AllByRecursion}
 use Rattle.std.proofs.lemmas.Int.{ints}
@@ -8,22 +8,20 @@ use Rattle.rx_forms.proofs.Tests.{both, and_true}
 use Rattle.rx_types.specs.Tree.{Tree}
 use Rattle.rx_types.specs.Domain.{Domain, size_of, IsNumberOf}
 use Rattle.rx_types.specs.Environment.{Environment, Placed, place_of, end_of, bits_of, in_message, IsAmong}
-use Rattle.rx_types.specs.Value.{value_of, is_one}
 use Rattle.rx_types.specs.Narrow.{StaysWithin}
 use Rattle.rx_graph.specs.declared.message.Node.{Node}
-use Rattle.rx_graph.specs.declared.message.Node.TheVariants.{Start, At, Null}
+use Rattle.rx_graph.specs.declared.message.Node.TheVariants.{Start, At}
 use Rattle.rx_graph.specs.Graph.{Arrow, Graph, limit_of, overlay_of, type_of}
-use Rattle.rx_graph.specs.Cycles.{IsLink}
 use Rattle.rx_graph.specs.Elaborated.{IsElaborated}
-use Rattle.rx_graph.specs.Paths.{value_or, first_of, size_of_target, IsTrue, LiesWithin, HasNumber, placed_by, Places, Leads, IsPartial}
+use Rattle.rx_graph.specs.Paths.{first_of, size_of_target, HasNumber, Places, Leads}
 use Rattle.rx_graph.proofs.Bounded.{stays_within}
-use Rattle.rx_graph.proofs.Unique.{leads_on, some_same, at_field}
+use Rattle.rx_graph.proofs.Unique.{leads_on}
 use Rattle.rx_forms.specs.declared.linear.Linear.{Linear}
 use Rattle.rx_forms.specs.declared.linear.Form.{Form, All}
-use Rattle.rx_forms.specs.Linear.{at, constant, term, minus, equal, meets, not_below_zero}
-use Rattle.rx_forms.specs.Normal.{Formed, formed_of, linear, bits, divisions_in, condition, agree}
+use Rattle.rx_forms.specs.Linear.{at, term, minus, equal, meets, not_below_zero}
+use Rattle.rx_forms.specs.Normal.{Formed, formed_of, bits}
 use Rattle.rx_forms.specs.Divisions.{divisions}
-use Rattle.rx_forms.specs.Points.{HasPlace, Represents, Solves, SolvesAny, Matches}
+use Rattle.rx_forms.specs.Points.{HasPlace, Represents, SolvesAny, Matches}
 use Rattle.rx_forms.specs.Steps
 use Rattle.rx_forms.specs.Carried.{CarriesLink, Carries}
 use Rattle.rx_forms.specs.Steps.{Step, IsFormable, AreFormable, IsNumericIfAny, IsNarrowLink, IsNarrowIfAny, AreNarrow, target_field, link_then, end_form, form_or, divisions_any, divisions_in_any, size_aspect, first_division, size_division, first_form, size_form, number_form, scalars_in, formed_by, condition_form, division_forms, place_forms, same_form, type_form_any, is_among}

@@ -1,6 +1,5 @@
 -- The point of a partial path carries its numbers and quotients.
-use Rattle.std.proofs.Common.{◌≡◌, refl, sym, ap, subst, ◌∙◌, ℕ, ◌+◌, ◌<◌, arith, List, [], ◌∷◌, ◌++◌, length, get_or, ℤ, pos, Option, Some, None, append-nil}
-use Rattle.std.specs.Prelude.{slice_get}
+use Rattle.std.proofs.Common.{◌≡◌, refl, sym, ap, subst, ◌∙◌, ℕ, ◌+◌, arith, List, [], ◌∷◌, ◌++◌, length, get_or, ℤ, pos, Option, Some, None, append-nil}
 use Rattle.rx_types.specs.Tree.{Tree}
 use Rattle.rx_types.specs.Domain.{Domain}
 use Rattle.rx_types.specs.Environment.{Environment, Placed, in_message}

@@ -1,6 +1,5 @@
 -- At a point that solves a condition's divisions, its form is met where the condition is true.
-use Rattle.std.proofs.Common.{◌≡◌, refl, sym, ap, subst, ◌∙◌, ℕ, zero, suc, ◌≤◌, ◌+◌, arith, List, [], ◌∷◌, ◌++◌, map, Bool, true, false, not, ◌&&◌, ◌||◌, if◌then◌else◌, ℤ, pos, negsuc, ◌+ℤ◌, ◌-ℤ◌, ◌*ℤ◌, ◌<ℤ◌, ◌≤ℤ◌, int_le, int_lt, Option, Some, None}
-use Rattle.std.specs.List.{list_all, list_any}
+use Rattle.std.proofs.Common.{◌≡◌, refl, sym, ap, ◌∙◌, ℕ, zero, suc, ◌≤◌, ◌+◌, arith, List, [], ◌∷◌, Bool, true, false, not, ◌&&◌, ◌||◌, if◌then◌else◌, ℤ, pos, ◌-ℤ◌, ◌<ℤ◌, ◌≤ℤ◌, int_le, int_lt, Option, Some, None}
 use Rattle.std.specs.Ordering.{int_eq}
 use Rattle.std.proofs.lemmas.Int.{ints, by_lt_z}
 use Rattle.std.proofs.lemmas.Bool.Decides.{Decides-int_eq}
@@ -8,13 +7,12 @@ use Rattle.rx_forms.proofs.Tests.{both, and_true}
 use Rattle.rx_types.specs.declared.expr.Operator.TheVariants as op
 use Rattle.rx_types.specs.Tree.{Tree, Number, Truth, Field, First, Last, Size, Total, Neg, Not, Binary}
 use Rattle.rx_types.specs.Environment.{Environment, place_of}
-use Rattle.rx_types.specs.Value.{value_of, combined, truth_value, is_one}
-use Rattle.rx_types.specs.declared.expr.Operator.{Operator}
+use Rattle.rx_types.specs.Value.{value_of, truth_value, is_one}
 use Rattle.rx_forms.specs.declared.linear.Linear.{Linear}
 use Rattle.rx_forms.specs.declared.linear.Form.{Form, AtLeast, All, Any}
 use Rattle.rx_forms.specs.declared.linear.Form.TheVariants.{rolls-AtLeast, rolls-All, rolls-Any}
 use Rattle.rx_forms.specs.declared.linear.Form.TheOpen.{Form-F}
-use Rattle.rx_forms.specs.declared.linear.Form.TheFolds.{fold-Form, fold-roll-Form}
+use Rattle.rx_forms.specs.declared.linear.Form.TheFolds.{fold-roll-Form}
 use Rattle.rx_forms.specs.Linear.{at, constant, minus, less_one, meets, meets_step, at_least, above, equal, unequal}
 use Rattle.rx_forms.specs.Normal.{Formed, formed_of, linear, divisions_in, condition, agree, joined, settled, comparison, compared, truth_in, IsNumeric, IsCondition, IsCompared}
 use Rattle.rx_forms.specs.Points.{Represents, Solves}

@@ -1,5 +1,5 @@
 -- A point that goes on with an expression's quotients solves its divisions.
-use Rattle.std.proofs.Common.{◌≡◌, refl, sym, ap, subst, ◌∙◌, ℕ, zero, suc, ◌+◌, ◌≤◌, arith, List, [], ◌∷◌, ◌++◌, length, Bool, true, false, if◌then◌else◌, get_or, ℤ, pos, append_assoc, append-nil}
+use Rattle.std.proofs.Common.{◌≡◌, refl, sym, ap, subst, ◌∙◌, ℕ, zero, suc, ◌+◌, arith, List, [], ◌∷◌, ◌++◌, length, Bool, true, false, if◌then◌else◌, get_or, ℤ, pos, append_assoc}
 use Rattle.std.specs.Int.{int_div_euclid}
 use Rattle.std.proofs.lemmas.List.{length-append}
 use Rattle.rx_types.specs.declared.expr.Operator.TheVariants as op
@@ -10,7 +10,6 @@ use Rattle.rx_types.specs.Value.{value_of}
 use Rattle.rx_forms.specs.Normal.{divisions_in}
 use Rattle.rx_forms.specs.Divisions.{quotients}
 use Rattle.rx_forms.specs.Points.{Solves, Chosen}
-use Rattle.rx_forms.proofs.Values.{static_same}
 
 if_length : (t : Bool) (xs ys : List ℤ) → length (if t then xs else ys) ≡ (if t then length xs else length ys)
 if_length true xs ys = refl

@@ -1,16 +1,15 @@
 -- Sums that have the numbers of a path's fields.
-use Rattle.std.proofs.Common.{◌≡◌, refl, sym, ap, subst, ◌∙◌, ℕ, ◌+◌, ◌*◌, arith, List, [], ◌∷◌, ◌++◌, Bool, true, false, ◌||◌, if◌then◌else◌, ◌==◌, get_or, ℤ, pos, ◌+ℤ◌, ◌-ℤ◌, ◌≤ℤ◌, Option, Some, None, ◌⊎◌, inl, inr}
+use Rattle.std.proofs.Common.{◌≡◌, refl, sym, ap, ◌∙◌, ℕ, ◌*◌, arith, List, [], ◌∷◌, ◌++◌, Bool, true, false, ◌||◌, if◌then◌else◌, ◌==◌, get_or, ℤ, pos, ◌+ℤ◌, Option, Some, None, ◌⊎◌, inl, inr}
 use Rattle.std.proofs.lemmas.Int.{ints}
 use Rattle.std.proofs.lemmas.Bool.Decides.{Decides-eqb}
 use Rattle.rx_types.specs.Tree.{Tree}
 use Rattle.rx_types.specs.Environment.{Environment, Placed, place_of, end_of, in_message, IsAmong}
-use Rattle.rx_types.specs.Value.{value_of}
-use Rattle.rx_types.specs.Narrow.{IsNarrow, StaysWithin}
+use Rattle.rx_types.specs.Narrow.{StaysWithin}
 use Rattle.rx_graph.specs.Paths.{value_or}
 use Rattle.rx_forms.specs.declared.linear.Linear.{Linear}
-use Rattle.rx_forms.specs.Linear.{at, constant, plus, not_below_zero}
-use Rattle.rx_forms.specs.Normal.{Formed, formed_of, linear, bits}
-use Rattle.rx_forms.specs.Points.{HasPlace, Represents, Solves, SolvesAny, Matches}
+use Rattle.rx_forms.specs.Linear.{at, plus, not_below_zero}
+use Rattle.rx_forms.specs.Normal.{Formed, formed_of, bits}
+use Rattle.rx_forms.specs.Points.{HasPlace, Represents, SolvesAny, Matches}
 use Rattle.rx_forms.specs.Steps.{IsNumericIfAny, IsNarrowIfAny, end_form, form_or, divisions_any, is_among}
 use Rattle.rx_forms.proofs.Sums.{at_plus, at_term, at_constant}
 use Rattle.rx_forms.proofs.Values.{linear_value}

@@ -1,17 +1,13 @@
 -- The rows of a condition's divisions, and the quotients that solve them.
-use Rattle.std.proofs.Common.{◌≡◌, refl, sym, ap, subst, ◌∙◌, ℕ, zero, suc, ◌+◌, arith, List, [], ◌∷◌, ◌++◌, length, Bool, true, false, if◌then◌else◌, get_or, ℤ, pos, Option, Some, None, append_assoc}
-use Rattle.std.specs.Int.{int_div_euclid}
+use Rattle.std.proofs.Common.{◌≡◌, refl, ℕ, ◌+◌, List, Bool, true, ℤ, Option, Some, None}
 use Rattle.rx_types.specs.declared.expr.Operator.TheVariants as op
 use Rattle.rx_types.specs.Tree.{Tree, Number, Truth, Field, First, Last, Size, Total, Neg, Not, Binary}
 use Rattle.rx_types.specs.Environment.{Environment}
-use Rattle.rx_types.specs.Value.{value_of}
-use Rattle.rx_types.specs.Static.{is_static, static_value}
 use Rattle.rx_types.specs.Narrow.{IsNarrow, StaysWithin}
 use Rattle.rx_forms.specs.Linear.{not_below_zero}
 use Rattle.rx_forms.specs.Normal.{Formed, divisions_in, truth_in, IsNumeric, IsCondition, IsCompared}
-use Rattle.rx_forms.specs.Divisions.{divisions, quotients}
-use Rattle.rx_forms.specs.Points.{Represents, Solves, Chosen}
-use Rattle.rx_forms.proofs.Values.{static_same}
+use Rattle.rx_forms.specs.Divisions.{divisions}
+use Rattle.rx_forms.specs.Points.{Represents, Solves}
 use Rattle.rx_forms.proofs.Quotients.{solves_number, rows_of_number, parts_of, of_parts}
 
 -- ---- a spelled truth value has no divisions

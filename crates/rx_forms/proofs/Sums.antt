@@ -1,8 +1,8 @@
 -- What the operations on sums do to their numbers at a point.
-use Rattle.std.proofs.Common.{◌≡◌, refl, sym, ap, ◌∙◌, ℕ, zero, suc, arith, List, [], ◌∷◌, ◌++◌, replicate, get_or, ℤ, pos, negsuc, ◌+ℤ◌, ◌-ℤ◌, ◌*ℤ◌, neg_ℤ}
+use Rattle.std.proofs.Common.{◌≡◌, sym, ap, ℕ, zero, suc, arith, List, [], ◌∷◌, ◌++◌, replicate, get_or, ℤ, pos, negsuc, ◌+ℤ◌, ◌-ℤ◌, ◌*ℤ◌, neg_ℤ}
 use Rattle.std.proofs.lemmas.Int.{ints}
-use Rattle.std.proofs.Math.IntN.{*ℤ_comm, zero-*ℤ, *ℤ-zero}
-use Rattle.rx_model.specs.Sums.{product_sum, weighted_sum}
+use Rattle.std.proofs.Math.IntN.{zero-*ℤ, *ℤ-zero}
+use Rattle.rx_model.specs.Sums.{product_sum}
 use Rattle.rx_model.proofs.Ring.{times_add}
 use Rattle.rx_model.proofs.Sums.{product_sum-weighted}
 use Rattle.rx_forms.specs.declared.linear.Linear.{Linear}

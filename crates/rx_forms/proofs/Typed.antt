@@ -1,5 +1,5 @@
 -- Typed, linear and narrow expressions have sums and facts.
-use Rattle.std.proofs.Common.{◌≡◌, ◌≢◌, refl, sym, ap, subst, ◌∙◌, ℕ, zero, suc, List, [], ◌∷◌, Bool, true, false, Option, Some, None, ◌⊎◌, inl, inr}
+use Rattle.std.proofs.Common.{◌≡◌, ◌≢◌, refl, sym, ap, subst, ◌∙◌, ℕ, zero, suc, List, Bool, Option, Some, None, ◌⊎◌, inl, inr}
 use Rattle.std.specs.Prelude.{slice_get}
 use Rattle.rx_types.specs.declared.expr.Operator.TheVariants as op
 use Rattle.rx_types.specs.declared.kind.Kind.{Kind}
@@ -8,14 +8,13 @@ use Rattle.rx_types.specs.declared.scalar.FieldType.{FieldType}
 use Rattle.rx_types.specs.declared.scalar.FieldType.TheVariants.{Scalar, Opaque, Sequence}
 use Rattle.rx_types.specs.Domain.{Domain, Integer, Enumeration, greatest_of, boolean}
 use Rattle.rx_types.specs.Tree.{Tree, Number, Truth, Field, First, Last, Size, Total, Neg, Not, Binary}
-use Rattle.rx_types.specs.Kinds.{HasKind, IsSpelled, AreComparable, kind_by}
+use Rattle.rx_types.specs.Kinds.{HasKind, IsSpelled, AreComparable}
 use Rattle.rx_types.specs.Static.{IsLinear}
 use Rattle.rx_graph.specs.declared.message.Field as field
-use Rattle.rx_graph.specs.Graph.{Arrow, Graph, type_of, limit_of, kind_of, kind_in, kind_of_field, scalar_of, greatest_if_any}
-use Rattle.rx_graph.specs.Cycles.{IsLink}
-use Rattle.rx_graph.specs.Elaborated.{IsElaborated, IsAspect, IsElaboratedLink}
+use Rattle.rx_graph.specs.Graph.{Graph, limit_of, kind_of, kind_in, kind_of_field, scalar_of, greatest_if_any}
+use Rattle.rx_graph.specs.Elaborated.{IsElaborated, IsAspect}
 use Rattle.rx_forms.specs.Normal.{truth_in, IsNumeric, IsCondition, IsCompared}
-use Rattle.rx_forms.specs.Steps.{IsNumericIfAny, IsNarrowIfAny, IsFormable, IsNarrowLink, AreFormable, AreNarrow}
+use Rattle.rx_forms.specs.Steps.{IsNumericIfAny, IsNarrowIfAny, AreFormable, AreNarrow}
 
 number_no_truth : kind.Number ≢ kind.Truth
 number_no_truth e = cc

@@ -1,18 +1,18 @@
 -- At a point that solves an expression's divisions, its form has its value.
-use Rattle.std.proofs.Common.{◌≡◌, refl, sym, ap, subst, ◌∙◌, ℕ, zero, suc, ◌+◌, arith, List, [], ◌∷◌, ◌++◌, Bool, true, false, ◌&&◌, ◌||◌, if◌then◌else◌, get_or, ℤ, pos, negsuc, ◌+ℤ◌, ◌-ℤ◌, ◌*ℤ◌, ◌<ℤ◌, neg_ℤ}
+use Rattle.std.proofs.Common.{◌≡◌, refl, sym, ap, ◌∙◌, ℕ, ◌+◌, arith, List, Bool, true, false, ◌||◌, if◌then◌else◌, get_or, ℤ, pos, negsuc, ◌+ℤ◌, ◌-ℤ◌, ◌*ℤ◌, ◌<ℤ◌, neg_ℤ}
 use Rattle.std.specs.Int.{int_div_euclid, int_rem_euclid}
 use Rattle.std.proofs.lemmas.Int.{ints}
 use Rattle.std.proofs.Math.IntN.{*ℤ_comm}
 use Rattle.rx_types.specs.declared.expr.Operator.TheVariants as op
 use Rattle.rx_types.specs.Tree.{Tree, Number, Truth, Field, First, Last, Size, Total, Neg, Not, Binary}
-use Rattle.rx_types.specs.Environment.{Environment, Placed, place_of, last_of}
+use Rattle.rx_types.specs.Environment.{Environment}
 use Rattle.rx_types.specs.Static.{is_static, static_value}
 use Rattle.rx_types.specs.Value.{value_of}
 use Rattle.rx_types.proofs.Statics.{static_everywhere}
 use Rattle.rx_forms.specs.declared.linear.Linear.{Linear}
-use Rattle.rx_forms.specs.Linear.{at, constant, term, plus, minus, times, less_one}
-use Rattle.rx_forms.specs.Normal.{Formed, formed_of, linear, divisions_in, bits, IsNumeric}
-use Rattle.rx_forms.specs.Points.{HasPlace, Represents, Solves, Chosen}
+use Rattle.rx_forms.specs.Linear.{at, term, times}
+use Rattle.rx_forms.specs.Normal.{Formed, formed_of, linear, divisions_in, IsNumeric}
+use Rattle.rx_forms.specs.Points.{Represents, Solves, Chosen}
 use Rattle.rx_forms.proofs.Sums.{at_plus, at_minus, at_times, at_term, at_variable, at_constant, at_less_one}
 
 pub static_same : (x : Tree) (e : Environment) → is_static x ≡ true → value_of x e ≡ static_value x

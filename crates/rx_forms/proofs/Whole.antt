@@ -1,5 +1,5 @@
 -- The rows along a whole path, from the start on.
-use Rattle.std.proofs.Common.{◌≡◌, refl, ℕ, ◌+◌, List, [], ℤ, pos}
+use Rattle.std.proofs.Common.{refl, ◌+◌, List, []}
 use Rattle.rx_types.specs.Domain.{Domain}
 use Rattle.rx_graph.specs.declared.message.Node.TheVariants.{Start}
 use Rattle.rx_graph.specs.Graph.{Graph, limit_of}

@@ -4,14 +4,14 @@
 --   linear fields n x            the sum that has an expression's value; its divisions have the variables from n on
 --   condition fields n wanted x  the fact that holds where a condition is true, or where it is false
 --   IsNumeric, IsCondition       what has a sum, and what has a fact
-use Rattle.std.specs.Prelude.{◌≡◌, List, [], ◌∷◌, ℕ, ◌+◌, ◌==◌, Bool, true, false, not, ◌||◌, if◌then◌else◌, ℤ, pos, negsuc, ◌<ℤ◌, Option, Some, None}
+use Rattle.std.specs.Prelude.{◌≡◌, List, [], ◌∷◌, ℕ, ◌+◌, ◌==◌, Bool, true, false, not, ◌||◌, if◌then◌else◌, pos, negsuc, ◌<ℤ◌, Option, Some, None}
 use Rattle.rx_types.specs.declared.expr.Operator.{Operator}
 use Rattle.rx_types.specs.declared.expr.Operator.TheVariants as op
 use Rattle.rx_types.specs.Tree.{Tree, Number, Truth, Field, First, Last, Size, Total, Neg, Not, Binary}
 use Rattle.rx_types.specs.Static.{is_static, static_value}
 use Rattle.rx_types.specs.Value.{truth_value}
 use Rattle.rx_forms.specs.declared.linear.Linear.{Linear}
-use Rattle.rx_forms.specs.declared.linear.Form.{Form, AtLeast, All, Any}
+use Rattle.rx_forms.specs.declared.linear.Form.{Form, All, Any}
 use Rattle.rx_forms.specs.Linear.{constant, term, plus, minus, times, less_one, at_least, above, equal, unequal}
 
 -- the truth value that an expression spells out
