@@ -1,0 +1,78 @@
+-- What is gathered along a path, link by link.
+--   Front                    what stands before a link: fields, the numbers of the next variables, and what was gathered
+--   after_link, after_links  what stands behind a link into a field, and behind several
+--   after_end, after_ends    what stands behind the condition of a link at the end, and behind several
+--   link_within, links_within, end_within, ends_within    whether they stay within the path limit
+use Rattle.std.specs.Prelude.{List, [], ◌∷◌, ◌++◌, ℕ, ◌+◌, Bool, true, ◌&&◌, nat_le}
+use Rattle.rx_types.specs.Domain.{Domain}
+use Rattle.rx_graph.specs.Graph.{Arrow, Graph, type_of, limit_of}
+use Rattle.rx_forms.specs.declared.linear.Linear.{Linear}
+use Rattle.rx_forms.specs.declared.linear.Form.{Form}
+use Rattle.rx_forms.specs.declared.builder.Builder.{Builder}
+use Rattle.rx_forms.specs.Normal.{Formed, divisions_in, condition}
+use Rattle.rx_forms.specs.Divisions.{divisions}
+use Rattle.rx_forms.specs.Limits.{all_kept, is_within}
+use Rattle.rx_forms.specs.Steps.{Step, first_form, size_form, condition_form, division_forms, formed_at, next_scalar, next_division, target_field}
+use Rattle.rx_forms.specs.Gathered.{met_at}
+use Rattle.rx_forms.specs.Code.{formed_all}
+
+pub record Front : Type 0 where
+  pub fields : List Formed
+  pub scalar : ℕ
+  pub division : ℕ
+  pub rows : List Linear
+  pub firsts : List Linear
+  pub sizes : List Linear
+  pub conditions : List Form
+
+-- what the code keeps
+abbrev pub front_of : Builder → Front
+front_of b = record { fields = formed_all b.fields.items; scalar = b.scalar; division = b.work.next; rows = b.work.rows; firsts = b.firsts; sizes = b.sizes; conditions = b.conditions }
+
+-- the link behind what stands before it
+abbrev pub step_at : Front → Arrow → Step
+step_at front link = record { before = front.fields; scalar = front.scalar; division = front.division; link = link; field = target_field link.target }
+
+module _ (domains : List Domain) (m : Graph) where
+  abbrev pub after_step : Front → Step → Front
+  after_step front step = record {
+    fields = front.fields ++ formed_at domains m step ∷ [];
+    scalar = next_scalar domains m step;
+    division = next_division domains m step;
+    rows = front.rows ++ division_forms (limit_of domains m) (type_of domains m step.field) step;
+    firsts = front.firsts ++ first_form step ∷ [];
+    sizes = front.sizes ++ size_form (type_of domains m step.field) step ∷ [];
+    conditions = front.conditions ++ condition_form step ∷ [];
+  }
+
+  abbrev pub after_link : Front → Arrow → Front
+  after_link front link = after_step front (step_at front link)
+
+  abbrev pub step_within : Step → Bool
+  step_within step = nat_le (next_division domains m step) 190 && all_kept (met_at (type_of domains m step.field) step)
+
+  abbrev pub link_within : Front → Arrow → Bool
+  link_within front link = step_within (step_at front link)
+
+  abbrev pub after_links : Front → List Arrow → Front
+  after_links front [] = front
+  after_links front (link ∷ links) = after_links (after_link front link) links
+
+  abbrev pub links_within : Front → List Arrow → Bool
+  links_within front [] = true
+  links_within front (link ∷ links) = link_within front link && links_within (after_link front link) links
+
+  abbrev pub after_end : Front → Arrow → Front
+  after_end front link = record front {
+    division = front.division + divisions_in link.condition;
+    rows = front.rows ++ divisions (limit_of domains m) front.fields front.division link.condition;
+    conditions = front.conditions ++ condition front.fields front.division true link.condition ∷ [];
+  }
+
+  abbrev pub after_ends : Front → List Arrow → Front
+  after_ends front [] = front
+  after_ends front (link ∷ links) = after_ends (after_end front link) links
+
+  abbrev pub ends_within : Front → List Arrow → Bool
+  ends_within front [] = true
+  ends_within front (link ∷ links) = is_within front.fields front.division link.condition && ends_within (after_end front link) links

@@ -1,0 +1,12 @@
+pub mod Carried
+pub mod Code
+pub mod Divisions
+pub mod Fronts
+pub mod Gathered
+pub mod Laws
+pub mod Limits
+pub mod Linear
+pub mod Normal
+pub mod Points
+pub mod Steps
+pub mod Worked
