@@ -9,6 +9,4 @@ mod types;
 pub use fault::refused_with;
 pub use parts::{FieldParts, MessageParts, Parts, message_parts};
 pub use stand::{Declared, Seen, package_stands};
-pub use types::{
-    KnownScalar, KnownType, Types, built_in_types, package_types, type_named,
-};
+pub use types::{KnownScalar, KnownType, Types, built_in_types, package_types, type_named};
