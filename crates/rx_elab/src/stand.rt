@@ -12,8 +12,8 @@ ghost use Rattle.rx_elab.specs.Stand.{fresh, knowing, literal_fresh, enum_aspect
 use crate::fault::refused_with;
 use rx_judge::{Fault, NoMemory, Table, refused_at};
 use rx_syntax::{
-    AspectTree, DeclKind, DeclTree, DefTree, EnumAspect, FieldTree, HeaderTree, LiteralTree, MessageTree,
-    Named, PackageTree, Place, ThenTree, Word,
+    AspectTree, DeclKind, DeclTree, DefTree, EnumAspect, FieldTree, HeaderTree, LiteralTree,
+    MessageTree, Named, PackageTree, Place, ThenTree, Word,
 };
 use rx_types::Name;
 use std::alloc::Global;
@@ -194,7 +194,11 @@ fn is_claimed(
 {
     match field {
         None => Ok(false),
-        Some(field) => known.has(alloc, aspect_name(aspect).as_bytes(), field.as_str().as_bytes()),
+        Some(field) => known.has(
+            alloc,
+            aspect_name(aspect).as_bytes(),
+            field.as_str().as_bytes(),
+        ),
     }
 }
 
@@ -244,7 +248,12 @@ fn add_aspects(
     ensures { IfOk result (λ x. known.new ≡ with_aspects known.old field.now aspects.now) }
 {
     for aspect in aspects {
-        known.add(alloc, aspect_name(aspect).as_bytes(), field.as_str().as_bytes(), ())?;
+        known.add(
+            alloc,
+            aspect_name(aspect).as_bytes(),
+            field.as_str().as_bytes(),
+            (),
+        )?;
     }
     Ok(())
 }
@@ -329,11 +338,7 @@ fn message_stands(alloc: Global, message: &MessageTree) -> Result<Seen, Fault>
 
 // ---- packages
 
-fn definition_stands(
-    alloc: Global,
-    literals: &mut Table<()>,
-    def: &DefTree,
-) -> Result<(), Fault>
+fn definition_stands(alloc: Global, literals: &mut Table<()>, def: &DefTree) -> Result<(), Fault>
     ensures meaning { IfOk result (λ x. definition_stands literals.old def.now ≡ Ok literals.new) }
     ensures refusal { IfErr result (λ e. Tells e (definition_stands literals.old def.now)) }
 {
@@ -349,11 +354,7 @@ fn definition_stands(
     }
 }
 
-fn declaration_stands(
-    alloc: Global,
-    declared: &mut Declared,
-    decl: &DeclTree,
-) -> Result<(), Fault>
+fn declaration_stands(alloc: Global, declared: &mut Declared, decl: &DeclTree) -> Result<(), Fault>
     ensures meaning { IfOk result (λ x. declaration_stands declared.old decl.now ≡ Ok declared.new) }
     ensures refusal { IfErr result (λ e. Tells e (declaration_stands declared.old decl.now)) }
 {

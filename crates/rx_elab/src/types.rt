@@ -143,7 +143,9 @@ fn add_scalar(
 {
     let id = types.scalars.len() as TypeId;
     let known = KnownType::Scalar(known_scalar(id, &kind));
-    types.types.add(alloc, package.bytes(), name.bytes(), known)?;
+    types
+        .types
+        .add(alloc, package.bytes(), name.bytes(), known)?;
     add_literals_of(alloc, &mut types.literals, package.bytes(), id, &kind)?;
     let package = package.copy(alloc)?;
     types.scalars.push(Scalar {
@@ -154,16 +156,13 @@ fn add_scalar(
     Ok(())
 }
 
-fn add_other(
-    alloc: Global,
-    types: &mut Types,
-    package: &Name,
-    name: &Name,
-) -> Result<(), NoMemory>
+fn add_other(alloc: Global, types: &mut Types, package: &Name, name: &Name) -> Result<(), NoMemory>
     ensures types { IfOk result (λ x. with_other «package».now (types_of types.old) name.now ≡ types_of types.new) }
     ensures count { IfOk result (λ x. length types.new.scalars.items ≤ length types.old.scalars.items + 1) }
 {
-    types.types.add(alloc, package.bytes(), name.bytes(), KnownType::Other)?;
+    types
+        .types
+        .add(alloc, package.bytes(), name.bytes(), KnownType::Other)?;
     Ok(())
 }
 
@@ -223,11 +222,7 @@ fn types_declared(
 }
 
 /// The second pass over a package: its scalar types (10 to 14, 20), with the names of its types and literals.
-pub fn package_types(
-    alloc: Global,
-    types: &mut Types,
-    package: &PackageTree,
-) -> Result<(), Fault>
+pub fn package_types(alloc: Global, types: &mut Types, package: &PackageTree) -> Result<(), Fault>
     requires few { length types.old.scalars.items + length «package».now.decls.items ≤ 2 ^ 32 }
     ensures meaning { IfOk result (λ x. package_types (types_of types.old) «package».now ≡ Ok (types_of types.new)) }
     ensures refusal { IfErr result (λ e. Tells e (package_types (types_of types.old) «package».now)) }

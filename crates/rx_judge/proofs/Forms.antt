@@ -188,8 +188,8 @@ look x [] u (inl e) = sym e
 look x [] u (inr h) = absurd h
 look x (v ∷ us) u h =
     choose (is_same (code_of v) (code_of u)) (coefficient_of v x) (coefficient_in (map (term_of x) us) (code_of u)) (coefficient_of u x)
-      (λ s. ap (λ w. coefficient_of w x) (is_same_code v u s))
-      (λ s. look x us u (later (coefficient_of u x) us u v s h))
+    (λ s. ap (λ w. coefficient_of w x) (is_same_code v u s))
+    (λ s. look x us u (later (coefficient_of u x) us u v s h))
 
 look_up : (x : Tree) (u : Unknown) → coefficient_in (map (term_of x) (unknowns_in x)) (code_of u) ≡ coefficient_of u x
 look_up x u = look x (unknowns_in x) u (counted u x)
@@ -208,9 +208,9 @@ sum_all a b =
     let f = sum_term (terms_of a) (terms_of b) in
     let g = term_of (Binary op.Add a b) in
     map-append f (terms_of a) (terms_of b)
-      ∙ ap (λ ts. ts ++ map f (terms_of b)) (sum_part a b a (unknowns_in a))
-      ∙ ap (λ ts. map g (unknowns_in a) ++ ts) (sum_part a b b (unknowns_in b))
-      ∙ sym (map-append g (unknowns_in a) (unknowns_in b))
+    ∙ ap (λ ts. ts ++ map f (terms_of b)) (sum_part a b a (unknowns_in a))
+    ∙ ap (λ ts. map g (unknowns_in a) ++ ts) (sum_part a b b (unknowns_in b))
+    ∙ sym (map-append g (unknowns_in a) (unknowns_in b))
 
 pub sum_form : (l r f : LinearForm) (a b : Tree) → HasForm l a → HasForm r b → f.terms.items ≡ map (sum_term l.terms.items r.terms.items) (l.terms.items ++ r.terms.items) → f.quotients.items ≡ l.quotients.items ++ r.quotients.items → HasForm f (Binary op.Add a b)
 sum_form l r f a b h k t q = record { terms = t ∙ rw (h.terms, k.terms) (sum_all a b); quotients = q ∙ rw (h.quotients, k.quotients) refl }
@@ -257,9 +257,9 @@ false_branch true x y h = absurd (cc)
 pub left_form : (l f : LinearForm) (a b : Tree) → HasForm l b → is_static a ≡ true → f.terms.items ≡ map (scaled_term (static_value a)) l.terms.items → f.quotients.items ≡ map (λ c. static_value a *ℤ c) l.quotients.items → HasForm f (Binary op.Mul a b)
 left_form l f a b h s t q =
     scaled_form (static_value a) l f b (Binary op.Mul a b) h t q
-      (ap (λ us. us ++ unknowns_in b) (no_unknowns a s))
-      (λ u. true_branch (is_static a) (static_value a *ℤ coefficient_of u b) (coefficient_of u a *ℤ static_value b) s)
-      (sym (true_branch (is_static a) (map (λ d. static_value a *ℤ d) (quotient_coefficients b)) (map (λ c. c *ℤ static_value b) (quotient_coefficients a)) s))
+    (ap (λ us. us ++ unknowns_in b) (no_unknowns a s))
+    (λ u. true_branch (is_static a) (static_value a *ℤ coefficient_of u b) (coefficient_of u a *ℤ static_value b) s)
+    (sym (true_branch (is_static a) (map (λ d. static_value a *ℤ d) (quotient_coefficients b)) (map (λ c. c *ℤ static_value b) (quotient_coefficients a)) s))
 
 swapped : (z c : ℤ) → z *ℤ c ≡ c *ℤ z
 swapped z c = omega (arith, ints)
@@ -272,9 +272,9 @@ map_swapped z (c ∷ cs) = rw (swapped z c, map_swapped z cs) refl
 pub right_form : (l f : LinearForm) (a b : Tree) → HasForm l a → is_static a ≡ false → is_static b ≡ true → f.terms.items ≡ map (scaled_term (static_value b)) l.terms.items → f.quotients.items ≡ map (λ c. static_value b *ℤ c) l.quotients.items → HasForm f (Binary op.Mul a b)
 right_form l f a b h n s t q =
     scaled_form (static_value b) l f a (Binary op.Mul a b) h t q
-      (ap (λ us. unknowns_in a ++ us) (no_unknowns b s) ∙ append-nil (unknowns_in a))
-      (λ u. swapped (static_value b) (coefficient_of u a) ∙ false_branch (is_static a) (static_value a *ℤ coefficient_of u b) (coefficient_of u a *ℤ static_value b) n)
-      (sym (false_branch (is_static a) (map (λ d. static_value a *ℤ d) (quotient_coefficients b)) (map (λ c. c *ℤ static_value b) (quotient_coefficients a)) n) ∙ map_swapped (static_value b) (quotient_coefficients a))
+    (ap (λ us. unknowns_in a ++ us) (no_unknowns b s) ∙ append-nil (unknowns_in a))
+    (λ u. swapped (static_value b) (coefficient_of u a) ∙ false_branch (is_static a) (static_value a *ℤ coefficient_of u b) (coefficient_of u a *ℤ static_value b) n)
+    (sym (false_branch (is_static a) (map (λ d. static_value a *ℤ d) (quotient_coefficients b)) (map (λ c. c *ℤ static_value b) (quotient_coefficients a)) n) ∙ map_swapped (static_value b) (quotient_coefficients a))
 
 pub remainder_form : (l f : LinearForm) (a b : Tree) → HasForm l a → f.terms.items ≡ l.terms.items → f.quotients.items ≡ l.quotients.items ++ neg_ℤ (static_value b) ∷ [] → HasForm f (Binary op.Mod a b)
 remainder_form l f a b h t q = record { terms = t ∙ h.terms; quotients = q ∙ rw (h.quotients) refl }

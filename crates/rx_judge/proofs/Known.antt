@@ -37,9 +37,9 @@ static_interval o i j k x y a s t p q e =
     let left : interval_of (λ f. 0) x ≡ i = (static_everywhere x s).interval (λ f. 0) ∙ sym p in
     let right : interval_of (λ f. 0) y ≡ j = (static_everywhere y t).interval (λ f. 0) ∙ sym q in
     sym e
-      ∙ ap (λ w. interval_by o w j) (sym left)
-      ∙ ap (λ w. interval_by o (interval_of (λ f. 0) x) w) (sym right)
-      ∙ (static_everywhere (Binary o x y) (three_back (is_arithmetic o) (is_static x) (is_static y) a s t)).interval (λ f. 0)
+    ∙ ap (λ w. interval_by o w j) (sym left)
+    ∙ ap (λ w. interval_by o (interval_of (λ f. 0) x) w) (sym right)
+    ∙ (static_everywhere (Binary o x y) (three_back (is_arithmetic o) (is_static x) (is_static y) a s t)).interval (λ f. 0)
 
 pub binary_known : (o : Operator) (l r a : About) (fl fr f : LinearForm) (x y t : Tree) → IsKnown l fl x → IsKnown r fr y → bounds_by (Some o) l.interval r.interval ≡ Some a.interval → about_both (Some o) l r a.interval ≡ a → HasForm f (Binary o x y) → IsLowForm f → IsShort a.interval → t ≡ Binary o x y → IsKnown a f t
 binary_known o l r a fl fr f x y t p q b e h w s g =
@@ -105,8 +105,8 @@ pub left_product : (l r : About) (fl fr f : LinearForm) (x y : Tree) (z : ℤ) �
 left_product l r fl fr f x y z u v c e t q =
     let w : z ≡ static_value x = e ∙ low_is l fl x u c in
     left_form fr f x y v.has_form (sym u.constant ∙ c)
-      (subst (λ k. f.terms.items ≡ map (scaled_term k) fr.terms.items) w t)
-      (subst (λ k. f.quotients.items ≡ map (scaled_number k) fr.quotients.items) w q)
+    (subst (λ k. f.terms.items ≡ map (scaled_term k) fr.terms.items) w t)
+    (subst (λ k. f.quotients.items ≡ map (scaled_number k) fr.quotients.items) w q)
 
 differ : (c : Bool) → c ≡ true → c ≡ false → ⊥
 differ true h k = cc
@@ -121,8 +121,8 @@ right_product l r fl fr f x y z u v c n e t q =
     let d = v.static (right_static l.is_static r.is_static l.is_constant u.static c n) in
     let w : z ≡ static_value y = e ∙ low_is r fr y v d in
     right_form fl f x y u.has_form (sym u.constant ∙ c) (sym v.constant ∙ d)
-      (subst (λ k. f.terms.items ≡ map (scaled_term k) fl.terms.items) w t)
-      (subst (λ k. f.quotients.items ≡ map (scaled_number k) fl.quotients.items) w q)
+    (subst (λ k. f.terms.items ≡ map (scaled_term k) fl.terms.items) w t)
+    (subst (λ k. f.quotients.items ≡ map (scaled_number k) fl.quotients.items) w q)
 
 pub remainder_made : (l r : About) (fl fr f : LinearForm) (x y : Tree) (z : ℤ) → IsKnown l fl x → IsKnown r fr y → is_linear (Some op.Mod) l r ≡ true → z ≡ r.interval.low → f.terms.items ≡ fl.terms.items → f.quotients.items ≡ fl.quotients.items ++ neg_ℤ z ∷ [] → HasForm f (Binary op.Mod x y)
 remainder_made l r fl fr f x y z u v n e t q =

@@ -81,8 +81,8 @@ along owner (l ∷ ls) i j before zs lits h k e =
     let n = bind_ok (spelled l.name) (λ w. Ok (record { name = w; number = number_at (slice_get all j) })) s.0 s.1 in
     let number : s.0.number ≡ nat_abs p.0 = ap (λ (x : Literal). x.number) (sym (ok_same _ s.0 n.2)) ∙ ap number_at (ap (λ m. slice_get all m) e ∙ at_length before p.0 q.0) in
     let rest = along owner ls (i + 1) (j + 1) (before ++ p.0 ∷ []) q.0 t.0 q.1
-                 (subst (λ ys. each_from (literal_at ys) (j + 1) ls ≡ Ok t.0) (sym (append_assoc before (p.0 ∷ []) q.0)) t.1)
-                 (ap (λ m. m + 1) e ∙ sym (length_push before p.0)) in
+    (subst (λ ys. each_from (literal_at ys) (j + 1) ls ≡ Ok t.0) (sym (append_assoc before (p.0 ∷ []) q.0)) t.1)
+    (ap (λ m. m + 1) e ∙ sym (length_push before p.0)) in
     ap literal_numbers (sym (ok_same (s.0 ∷ t.0) lits t.2)) ∙ ap (λ m. m ∷ literal_numbers t.0) number ∙ ap (λ ms. nat_abs p.0 ∷ ms) rest ∙ ap (λ ys. map nat_abs ys) z
 
 below_if : (n : ℕ) (z : ℤ) → int_le (pos 0) z && int_lt z (pos n) ≡ true → nat_abs z < n
@@ -157,11 +157,15 @@ enumeration_measured name ls xs d h =
     let c = both_true (is_size t.0) (is_some_list p.0) b.0 in
     let s = size_facts t.0 c.0 in
     let e = along name.word ls 0 0 [] p.0 m.0 p.1 m.1 refl in
-    subst (λ w. IsMeasured w) (ok_same _ d m.2) (s.0, s.1, record {
-      some = some_literals m.0 p.0 e c.1;
-      below = literals_below (2 ^ nat_abs t.0) m.0 (subst (λ ms. AllByRecursion (λ k. k < 2 ^ nat_abs t.0) ms) (sym e) (all_below t.0 p.0 b.1));
-      numbers = literal_pairs m.0 (subst (λ ms. EachPair (λ x y. x ≢ y) ms) (sym e) (pairs t.0 p.0 b.1 a.1));
-    })
+    subst (λ w. IsMeasured w) (ok_same _ d m.2) (
+      s.0,
+      s.1,
+      record {
+        some = some_literals m.0 p.0 e c.1;
+        below = literals_below (2 ^ nat_abs t.0) m.0 (subst (λ ms. AllByRecursion (λ k. k < 2 ^ nat_abs t.0) ms) (sym e) (all_below t.0 p.0 b.1));
+        numbers = literal_pairs m.0 (subst (λ ms. EachPair (λ x y. x ≢ y) ms) (sym e) (pairs t.0 p.0 b.1 a.1));
+      },
+    )
 
 some_same : {A : Type 0} (x y : A) → Some x ≡ Some y → x ≡ y
 some_same x y h = cc

@@ -83,12 +83,7 @@ impl<T: Drop> From<AllocFailed<T>> for Fault {
 }
 
 /// A refusal at a place, which tells the name of what stands around it.
-pub fn refused(
-    alloc: Global,
-    number: u8,
-    place: Place,
-    owner: &Word,
-) -> Result<Refusal, NoMemory>
+pub fn refused(alloc: Global, number: u8, place: Place, owner: &Word) -> Result<Refusal, NoMemory>
     ensures { IfOk result (λ r. r ≡ record { number = number; place = place; name = owner.now }) }
 {
     let name = owner.copy(alloc)?;

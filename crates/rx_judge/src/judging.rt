@@ -144,15 +144,33 @@ fn attribute_of_thing(
 {
     match (attr, thing) {
         (Attr::First, Thing::Field(field)) => {
-            let judged = leaf(alloc, Expr::First(field.id), Unknown::FirstOf(field.id), 0, 1 << 27)?;
+            let judged = leaf(
+                alloc,
+                Expr::First(field.id),
+                Unknown::FirstOf(field.id),
+                0,
+                1 << 27,
+            )?;
             Ok(judged)
         }
         (Attr::Last, Thing::Field(field)) => {
-            let judged = leaf(alloc, Expr::Last(field.id), Unknown::LastOf(field.id), -1, 1 << 27)?;
+            let judged = leaf(
+                alloc,
+                Expr::Last(field.id),
+                Unknown::LastOf(field.id),
+                -1,
+                1 << 27,
+            )?;
             Ok(judged)
         }
         (Attr::Size, Thing::Field(field)) => {
-            let judged = leaf(alloc, Expr::Size(field.id), Unknown::SizeOf(field.id), 0, 1 << 27)?;
+            let judged = leaf(
+                alloc,
+                Expr::Size(field.id),
+                Unknown::SizeOf(field.id),
+                0,
+                1 << 27,
+            )?;
             Ok(judged)
         }
         _ => Err(Fault::Refused(refused_at(alloc, 10, name)?)),
@@ -316,7 +334,14 @@ pub fn judge(
         ExprTree::Binary(operator, place, left, right) => {
             let left = judge(alloc, names, owner, left)?;
             let right = judge(alloc, names, owner, right)?;
-            joined(alloc, owner, about::operator_of(*operator), *place, left, right)
+            joined(
+                alloc,
+                owner,
+                about::operator_of(*operator),
+                *place,
+                left,
+                right,
+            )
         }
     }
 }

@@ -75,7 +75,10 @@ fn own_thing(alloc: Global, scope: &Scope<'_>, word: &Word) -> Result<Option<Thi
     if let Some(field) = scope.fields.find(alloc, b"", name)? {
         return Ok(Some(Thing::Field(field)));
     }
-    if let Some(literal) = scope.literals.find(alloc, scope.package.as_str().as_bytes(), name)? {
+    if let Some(literal) = scope
+        .literals
+        .find(alloc, scope.package.as_str().as_bytes(), name)?
+    {
         return Ok(Some(Thing::Literal(literal)));
     }
     Ok(truth(word))
@@ -108,7 +111,10 @@ pub fn thing_of(alloc: Global, scope: &Scope<'_>, name: &NameTree) -> Result<Thi
                 return Err(Fault::Refused(refused_at(alloc, 8, package)?));
             }
             let prefix = package.word.as_str().as_bytes();
-            match scope.literals.find(alloc, prefix, name.name.word.as_str().as_bytes())? {
+            match scope
+                .literals
+                .find(alloc, prefix, name.name.word.as_str().as_bytes())?
+            {
                 Some(literal) => Ok(Thing::Literal(literal)),
                 None => Err(Fault::Refused(refused_at(alloc, 8, &name.name)?)),
             }
