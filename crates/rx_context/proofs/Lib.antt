@@ -4,7 +4,6 @@ pub mod Chains
 pub mod Ends
 pub mod Grid
 pub mod Lookup
-pub mod Nil
 pub mod OnPath
 pub mod Placing
 pub mod Spans

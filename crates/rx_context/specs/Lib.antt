@@ -4,4 +4,3 @@ pub mod Plan
 pub mod Reading
 pub mod Slots
 pub mod Steps
-pub mod Worked

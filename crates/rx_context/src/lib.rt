@@ -10,8 +10,6 @@ mod plain;
 mod plan;
 mod slots;
 mod step;
-#[cfg(test)]
-mod tests;
 mod verified;
 mod walk;
 
