@@ -1,12 +1,15 @@
 #!/usr/bin/env python3
-"""Systems of rows with a fixed seed, as text on standard output.
+"""Queries with a fixed seed, as text on standard output.
 
     rows.py small [COUNT]    20 rows over 3 variables, as the checks of a short message ask them
     rows.py middle [COUNT]   60 rows over 20 variables
     rows.py large [COUNT]    570 rows over 190 variables
+    rows.py halves [COUNT]   3a + 5b = 7 over two bytes, again and again: 255 halvings
+    rows.py cases [COUNT]    0 <= x <= 99, and x is no number from 0 to 99, again and again: 100 cases below one another
 
-A system is `q` and its number of variables, a count of rows, the rows (their coefficients, and the constant that
-their sum is at least), and a count of disjunctions, here always 0.
+A query is `q` and its number of variables, and then a list: a count of rows, the rows (their coefficients, and the
+constant that their sum is at least), a count of disjunctions, and for each a count of branches, each such a list. The
+first three have no disjunctions.
 
 A system is made around a point. Each variable has a row for its least and one for its greatest value. Variable 0 is
 the length of a buffer in bytes, the others are places in it in bits: rows keep them within it, and couple two or three
@@ -66,16 +69,40 @@ def system(draw, variables, rows, links, solvable):
     return cells
 
 
-def text(variables, cells):
-    lines = ["q %d" % variables, str(len(cells))]
-    lines += [" ".join(map(str, one)) for one in cells]
-    return "\n".join(lines + ["0"])
+def halves():
+    """Two bytes a and b with 3a + 5b = 7."""
+    return 2, list(bounds(2, [255, 255])) + [[3, 5, 7], [-3, -5, -7]], []
+
+
+def cases():
+    """0 <= x <= 99, and for each of these numbers x is less or greater."""
+    return 1, list(bounds(1, [99])), [[[[-1, 1 - number]], [[1, number + 1]]] for number in range(100)]
+
+
+def rows_of(cells):
+    return [str(len(cells))] + [" ".join(map(str, one)) for one in cells]
+
+
+def text(variables, cells, disjunctions=()):
+    lines = ["q %d" % variables] + rows_of(cells) + [str(len(disjunctions))]
+    for branches in disjunctions:
+        lines.append(str(len(branches)))
+        for branch in branches:
+            lines += rows_of(branch) + ["0"]
+    return "\n".join(lines)
+
+
+WALKS = {"halves": halves, "cases": cases}
 
 
 def main():
-    variables, rows, links, count = SIZES[sys.argv[1]]
+    walk = WALKS.get(sys.argv[1])
+    variables, rows, links, count = SIZES.get(sys.argv[1], (0, 0, 0, 100))
     if len(sys.argv) > 2:
         count = int(sys.argv[2])
+    if walk:
+        print("\n".join([text(*walk())] * count))
+        return
     draw = random.Random(20)
     for number in range(count):
         print(text(variables, system(draw, variables, rows, links, number % 2 == 0)))

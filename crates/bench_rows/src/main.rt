@@ -1,30 +1,35 @@
-//! Solves the systems of rows on standard input, each as often as the first word says, and counts what they come to.
+//! Solves the systems of rows on standard input, or walks the queries there, and counts what they come to.
 //!
-//! The input is numbers in text: for each query `q` and how many variables there are, a count of rows, the rows
-//! (their coefficients and the constant), and a count of disjunctions. A query with disjunctions is skipped, and so
-//! is one that `solve` does not take.
+//! The words are how often each is to be decided, and `walk` for walks. The input is numbers in text: for each query `q`
+//! and how many variables there are, a count of rows, the rows (their coefficients and the constant), a count of
+//! disjunctions, and for each a count of branches, each a list of rows and a 0. What `solve` or `prove` does not take is
+//! skipped.
 #![tactic(auto)]
 
 use anyhow::Context;
 use rx_linear::{Row, System};
+use rx_proof::{Proof, Query};
+use rx_prover::{Answer, prove};
 use rx_shadow::{Solved, is_bounded, solve};
 use sqlite_items::Items;
 use std::alloc::Global;
 use std::str::SplitWhitespace;
 use std::{env, io};
 
-/// What the systems came to.
+/// What the queries came to.
 #[derive(Debug, Default, Drop)]
 struct Counts {
     points: u64,
     closed: u64,
     steps: u64,
+    nodes: u64,
     not_simple: u64,
+    undecided: u64,
     skipped: u64,
 }
 
 impl Counts {
-    fn add(&mut self, solved: &Solved) {
+    fn add_solved(&mut self, solved: &Solved) {
         match solved {
             Solved::Point(_) => self.points = self.points.saturating_add(1),
             Solved::Closed(steps) => {
@@ -35,11 +40,42 @@ impl Counts {
         }
     }
 
+    fn add_walked(&mut self, answer: &Answer) {
+        match answer {
+            Answer::Point(_) => self.points = self.points.saturating_add(1),
+            Answer::NoPoint(proof) => {
+                self.closed = self.closed.saturating_add(1);
+                self.add_proof(proof);
+            }
+            Answer::Undecided(_) => self.undecided = self.undecided.saturating_add(1),
+        }
+    }
+
+    /// Adds the steps, the cases and the halvings of a proof.
+    fn add_proof(&mut self, proof: &Proof) {
+        match proof {
+            Proof::Close(steps) => self.steps = self.steps.saturating_add(steps.len() as u64),
+            Proof::Halve(_, _, low, high) => {
+                self.nodes = self.nodes.saturating_add(1);
+                self.add_proof(low.get());
+                self.add_proof(high.get());
+            }
+            Proof::Case(_, proofs) => {
+                self.nodes = self.nodes.saturating_add(1);
+                for inner in proofs.as_slice() {
+                    self.add_proof(inner);
+                }
+            }
+        }
+    }
+
     fn print(&self, rt: &impl Print) -> io::Result<()> {
         println!(rt; "points {}", self.points)?;
         println!(rt; "closed {}", self.closed)?;
         println!(rt; "steps {}", self.steps)?;
+        println!(rt; "nodes {}", self.nodes)?;
         println!(rt; "not simple {}", self.not_simple)?;
+        println!(rt; "undecided {}", self.undecided)?;
         println!(rt; "skipped {}", self.skipped)
     }
 }
@@ -70,19 +106,66 @@ fn read_row(
     })
 }
 
-/// The system of a query that stands behind its `q`; None where it has disjunctions or passes the limits of a system.
-fn read_system(alloc: Global, query: &str) -> anyhow::Result<Option<System>> {
-    let mut numbers = query.split_whitespace();
-    let variables = count(&mut numbers)?;
+/// A count of rows and the rows; None where they pass the limits of a system.
+fn read_system(
+    alloc: Global,
+    variables: usize,
+    numbers: &mut SplitWhitespace<'_>,
+) -> anyhow::Result<Option<System>> {
     let mut rows = Vec::new(alloc);
-    for _ in 0..count(&mut numbers)? {
-        rows.push(read_row(alloc, variables, &mut numbers)?)?;
+    for _ in 0..count(numbers)? {
+        rows.push(read_row(alloc, variables, numbers)?)?;
     }
-    let disjunctions = count(&mut numbers)?;
-    if disjunctions > 0 || !System::fits(variables, rows.as_slice()) {
+    if !System::fits(variables, rows.as_slice()) {
         return Ok(None);
     }
     Ok(Some(System::new(variables, Items::from_vec(rows))))
+}
+
+/// A branch of a disjunction; None where it has disjunctions itself.
+fn read_branch(
+    alloc: Global,
+    variables: usize,
+    numbers: &mut SplitWhitespace<'_>,
+) -> anyhow::Result<Option<Query>> {
+    let system = read_system(alloc, variables, numbers)?;
+    let disjunctions = count(numbers)?;
+    match system {
+        Some(system) if disjunctions == 0 => Ok(Some(Query {
+            system,
+            either: Items::new(alloc),
+        })),
+        _ => Ok(None),
+    }
+}
+
+/// A count of branches and the branches.
+fn read_disjunction(
+    alloc: Global,
+    variables: usize,
+    numbers: &mut SplitWhitespace<'_>,
+) -> anyhow::Result<Items<Query>> {
+    let mut branches = Vec::new(alloc);
+    for _ in 0..count(numbers)? {
+        let branch = read_branch(alloc, variables, numbers)?;
+        branches.push(branch.context("a branch is no list of rows")?)?;
+    }
+    Ok(Items::from_vec(branches))
+}
+
+/// The query that stands behind its `q`; None where it passes the limits of a system.
+fn read_query(alloc: Global, text: &str) -> anyhow::Result<Option<Query>> {
+    let mut numbers = text.split_whitespace();
+    let variables = count(&mut numbers)?;
+    let system = read_system(alloc, variables, &mut numbers)?;
+    let mut either = Vec::new(alloc);
+    for _ in 0..count(&mut numbers)? {
+        either.push(read_disjunction(alloc, variables, &mut numbers)?)?;
+    }
+    Ok(system.map(|system| Query {
+        system,
+        either: Items::from_vec(either),
+    }))
 }
 
 /// What the system comes to, solved so many times, and once at the least; None where a variable has no bounds.
@@ -96,22 +179,58 @@ fn solve_often(alloc: Global, times: u32, system: &System) -> anyhow::Result<Opt
     solve(alloc, system).map(Some).ok().context("no memory")
 }
 
-fn solve_all(alloc: Global, times: u32, text: &str) -> anyhow::Result<Counts> {
+/// How the walk of the query ends, made so many times, and once at the least; None where `prove` does not take it.
+fn walk_often(alloc: Global, times: u32, query: &Query) -> anyhow::Result<Option<Answer>> {
+    if !is_bounded(alloc, &query.system).ok().context("no memory")? {
+        return Ok(None);
+    }
+    if !query.is_even() {
+        return Ok(None);
+    }
+    for _ in 1..times {
+        prove(alloc, query, 4096).ok().context("no memory")?;
+    }
+    prove(alloc, query, 4096)
+        .map(Some)
+        .ok()
+        .context("no memory")
+}
+
+/// Decides the query so many times, and counts what it comes to.
+fn decide(
+    alloc: Global,
+    times: u32,
+    walks: bool,
+    query: &Query,
+    counts: &mut Counts,
+) -> anyhow::Result<()> {
+    if walks {
+        if let Some(answer) = walk_often(alloc, times, query)? {
+            counts.add_walked(&answer);
+            return Ok(());
+        }
+    } else if query.either.is_empty() {
+        if let Some(solved) = solve_often(alloc, times, &query.system)? {
+            counts.add_solved(&solved);
+            return Ok(());
+        }
+    }
+    counts.skipped = counts.skipped.saturating_add(1);
+    Ok(())
+}
+
+fn decide_all(alloc: Global, times: u32, walks: bool, text: &str) -> anyhow::Result<Counts> {
     let mut counts = Counts::default();
     for query in text.split('q').skip(1) {
-        let solved = match read_system(alloc, query)? {
-            Some(system) => solve_often(alloc, times, &system)?,
-            None => None,
-        };
-        match solved {
-            Some(solved) => counts.add(&solved),
+        match read_query(alloc, query)? {
+            Some(query) => decide(alloc, times, walks, &query, &mut counts)?,
             None => counts.skipped = counts.skipped.saturating_add(1),
         }
     }
     Ok(counts)
 }
 
-/// How often each system is to be solved: the first word, or 1.
+/// How often each query is to be decided: the first word, or 1.
 fn times(rt: &HostRuntime) -> anyhow::Result<u32> {
     match env::args(rt)?.nth(1) {
         Some(word) => word
@@ -122,10 +241,16 @@ fn times(rt: &HostRuntime) -> anyhow::Result<u32> {
     }
 }
 
+/// Whether the queries are to be walked: the second word is there.
+fn walks(rt: &HostRuntime) -> anyhow::Result<bool> {
+    Ok(env::args(rt)?.nth(2).is_some())
+}
+
 fn main(rt: HostRuntime) -> anyhow::Result<()> {
     let times = times(&rt)?;
+    let walks = walks(&rt)?;
     let text = io::read_to_string(rt.alloc(), rt.stdin())?;
-    let counts = solve_all(rt.alloc(), times, text.as_str())?;
+    let counts = decide_all(rt.alloc(), times, walks, text.as_str())?;
     counts.print(&rt)?;
     Ok(())
 }

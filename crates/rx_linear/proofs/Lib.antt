@@ -8,3 +8,4 @@ pub mod Cells
 pub mod Stacked
 pub mod Stacks
 pub mod Stacking
+pub mod Tight

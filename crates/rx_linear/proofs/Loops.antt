@@ -1,8 +1,8 @@
 -- The steps of the loops over coefficients.
-use Rattle.std.proofs.Common.{◌≡◌, sym, ap, ◌∙◌, ℕ, ◌+◌, ◌-◌, ◌/◌, ◌<◌, ◌≤◌, ◌^◌, arith, List, [], ◌∷◌, ◌++◌, map, length, take, drop, get_or, ℤ, pos, ◌+ℤ◌, ◌*ℤ◌, unsigned_abs, FitsSigned, to_z, of_z, append-nil, append_assoc}
-use Rattle.std.specs.Int.{w128, int_div_euclid}
+use Rattle.std.proofs.Common.{◌≡◌, sym, ap, ◌∙◌, ℕ, ◌+◌, ◌-◌, ◌/◌, ◌<◌, ◌≤◌, ◌^◌, arith, List, [], ◌∷◌, ◌++◌, length, take, drop, get_or, ℤ, pos, ◌+ℤ◌, ◌*ℤ◌, unsigned_abs, FitsSigned, to_z, of_z, append-nil}
+use Rattle.std.specs.Int.{w128}
 use Rattle.std.proofs.lemmas.Int.{ints, to_z-of_z}
-use Rattle.std.proofs.lemmas.List.{drop_all, drop_more, take_rest}
+use Rattle.std.proofs.lemmas.List.{drop_all, take_rest}
 use Rattle.std.proofs.lemmas.List.Elements.{All-get_or}
 use Rattle.rx_model.specs.Sums.{product_sum, weighted_sum}
 use Rattle.rx_linear.specs.Rows.{AllBelow}
@@ -28,17 +28,6 @@ pub sum_step : (cs xs : List ℤ) (i : ℕ) (sum term next : ℤ) → i < length
 sum_step cs xs i sum term next h same et en inv =
     let s = product_sum-step cs xs i h same in
     omega (arith, ints)
-
-pub tighten_step : (done new cs : List ℤ) (d q : ℤ) (i : ℕ) → i < length cs → q ≡ int_div_euclid (get_or cs i (pos 0)) d → new ≡ done ++ q ∷ [] → done ++ map (λ z. int_div_euclid z d) (drop i cs) ≡ map (λ z. int_div_euclid z d) cs → new ++ map (λ z. int_div_euclid z d) (drop (i + 1) cs) ≡ map (λ z. int_div_euclid z d) cs
-tighten_step done new cs d q i h eq en inv =
-    ap (λ (n : List ℤ). n ++ map (λ z. int_div_euclid z d) (drop (i + 1) cs)) (en ∙ ap (λ (z : ℤ). done ++ z ∷ []) eq)
-    ∙ append_assoc done _ _
-    ∙ ap (λ (n : List ℤ). done ++ map (λ z. int_div_euclid z d) n) (sym (drop_more cs i (pos 0) h))
-    ∙ inv
-
-pub tighten_end : (done cs : List ℤ) (d : ℤ) (i : ℕ) → length cs ≤ i → done ++ map (λ z. int_div_euclid z d) (drop i cs) ≡ map (λ z. int_div_euclid z d) cs → done ≡ map (λ z. int_div_euclid z d) cs
-tighten_end done cs d i h inv =
-    sym (append-nil done) ∙ ap (λ (n : List ℤ). done ++ map (λ z. int_div_euclid z d) n) (sym (drop_all i cs h)) ∙ inv
 
 halves_of_one : (cs xs : List ℤ) (low high : ℤ) → length cs ≡ length xs → low ≡ product_sum (take (length cs / 2) cs) (take (length cs / 2) xs) → high ≡ product_sum (take (length cs - length cs / 2) (drop (length cs / 2) cs)) (take (length xs - length cs / 2) (drop (length cs / 2) xs)) → product_sum cs xs ≡ low +ℤ high
 halves_of_one cs xs low high same el eh =

@@ -91,11 +91,11 @@ divided_is_tight n d cells ds v h g e f =
     let same : d ≡ divisor_of (row_of n cells) = omega (arith, g) in
     same_parts (e ∙ ap (λ (k : ℕ). map (λ z. divided_down z k) (take n cells)) same) (f ∙ ap (divided_up (get_or cells n (pos 0))) same)
 
-down_one : (z : ℤ) → divided_down z 1 ≡ z
+pub down_one : (z : ℤ) → divided_down z 1 ≡ z
 down_one (pos a) = omega (arith, ints)
 down_one (negsuc a) = omega (arith, ints)
 
-map_down_one : (cs : List ℤ) → map (λ c. divided_down c 1) cs ≡ cs
+pub map_down_one : (cs : List ℤ) → map (λ c. divided_down c 1) cs ≡ cs
 map_down_one [] = refl
 map_down_one (c ∷ cs) = ap (λ (z : ℤ). z ∷ map (λ x. divided_down x 1) cs) (down_one c) ∙ ap (λ (zs : List ℤ). c ∷ zs) (map_down_one cs)
 

@@ -15,7 +15,7 @@ fn product(coefficient: i128, number: i128) -> i128
 }
 
 /// The sum of coefficient times variable, for at most 96 of them.
-fn sum_of_products(coefficients: &[i128], point: &[i128]) -> i128
+pub fn sum_of_products(coefficients: &[i128], point: &[i128]) -> i128
     requires same_length { length coefficients.now ≡ length point.now }
     requires few { length coefficients.now ≤ 96 }
     requires coefficients_small { AllBelow (2 ^ 20) coefficients.now }

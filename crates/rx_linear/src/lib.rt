@@ -16,9 +16,9 @@ mod tightening;
 
 pub use combining::combine;
 pub use fault::NoMemory;
-pub use holding::holds_at;
+pub use holding::{holds_at, sum_of_products};
 pub use row::Row;
 pub use stack::RowStack;
 pub use step::Step;
 pub use system::System;
-pub use tightening::tighten;
+pub use tightening::{tighten, tightened};

@@ -1,5 +1,5 @@
 -- A point of a branch is a point of the node.
-use Rattle.std.proofs.Common.{◌≡◌, refl, sym, ap, ◌∙◌, subst, ℕ, ◌<◌, List, [], ◌∷◌, ◌++◌, map, length, get_or, Bool, true, ◌&&◌, ◌||◌, ℤ}
+use Rattle.std.proofs.Common.{◌≡◌, refl, sym, ap, ◌∙◌, ℕ, ◌<◌, List, [], ◌∷◌, ◌++◌, map, length, get_or, Bool, true, ◌&&◌, ◌||◌, ℤ}
 use Rattle.std.specs.List.{list_all, list_any, remove}
 use Rattle.std.proofs.lemmas.List.Folds.{list_all-append, list_any_at}
 use Rattle.rx_linear.specs.declared.row.Row.{Row}

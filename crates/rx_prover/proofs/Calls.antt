@@ -1,17 +1,16 @@
 -- What each step of the walk owes its callers, over plain variables.
-use Rattle.std.proofs.Common.{◌≡◌, refl, sym, ap, ◌∙◌, subst, ℕ, ◌+◌, ◌-◌, ◌<◌, ◌≤◌, ◌^◌, arith, List, [], ◌∷◌, Bool, true, false, ◌&&◌, nat_lt, ℤ, pos, negsuc, neg_ℤ, ◌+ℤ◌, ◌-ℤ◌, unsigned_abs, FitsSigned, to_z, of_z, length, inl, inr, ◌⊎◌, Vec, Global}
+use Rattle.std.proofs.Common.{◌≡◌, refl, sym, ap, ◌∙◌, subst, ℕ, ◌-◌, ◌<◌, ◌≤◌, ◌^◌, arith, List, [], ◌∷◌, true, false, nat_lt, ℤ, pos, ◌+ℤ◌, ◌-ℤ◌, unsigned_abs, FitsSigned, to_z, of_z, length, inl, inr, Vec, Global}
 use Rattle.std.specs.Int.{w128}
 use Rattle.std.proofs.lemmas.Int.{ints, to_z-of_z}
 use Rattle.rx_linear.specs.declared.row.Row.{Row}
 use Rattle.rx_linear.specs.declared.step.Step.{Step}
 use Rattle.rx_linear.specs.Steps.{closes}
 use Rattle.rx_linear.specs.Systems.{LinearSystem, IsWithinLimits}
-use Rattle.rx_linear.specs.Units.{unit_row, at_most, at_least}
+use Rattle.rx_linear.specs.Units.{unit_row, at_most}
 use Rattle.rx_linear.proofs.Joining.{and_true}
 use Rattle.rx_proof.specs.declared.query.Query.{Query}
 use Rattle.rx_proof.specs.declared.proof.Proof.{Proof, Close}
-use Rattle.rx_proof.specs.Acceptance.{Node, with_row, can_halve}
-use Rattle.rx_shadow.specs.declared.solving.Solved.{Solved}
+use Rattle.rx_proof.specs.Acceptance.{Node, with_row}
 use Rattle.rx_shadow.specs.declared.solving.Solved.TheVariants as solved
 use Rattle.rx_shadow.specs.Bounds.{HasUnitRows, narrowest, middle}
 use Rattle.rx_shadow.specs.Simple.{Outcome, Clash, TrueRows, Neither, outcome, clashes}
@@ -20,7 +19,7 @@ use Rattle.rx_shadow.specs.Joined.{IsSolvedAt}
 use Rattle.rx_prover.specs.declared.walked.Walked.{Walked}
 use Rattle.rx_prover.specs.declared.walked.Walked.TheVariants.{Closed, Found, Unfinished}
 use Rattle.rx_prover.specs.Walk.{Cases, Halves, kind, walk_from}
-use Rattle.rx_prover.specs.Walked.{node_of, Goes, IsPointAt, IsLowerDone}
+use Rattle.rx_prover.specs.Walked.{node_of, Goes, IsLowerDone}
 use Rattle.rx_prover.proofs.Ends.{kind_empty, kind_else, kind_leaf, same_never_past, IsPast}
 use Rattle.rx_prover.specs.declared.tree.OpenTree as tree
 use Rattle.rx_prover.proofs.Leaves.{goes_closed, goes_found, goes_stopped}

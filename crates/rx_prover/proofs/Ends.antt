@@ -1,11 +1,9 @@
 -- How the walk of a node ends, by its kind.
-use Rattle.std.proofs.Common.{◌≡◌, refl, sym, ap, ◌∙◌, subst, ℕ, zero, suc, ◌+◌, ◌≤◌, arith, List, [], ◌∷◌, Bool, true, false, cond, ℤ, pos, ◌+ℤ◌}
-use Rattle.rx_linear.specs.declared.row.Row.{Row}
+use Rattle.std.proofs.Common.{◌≡◌, refl, ap, ◌∙◌, subst, ℕ, zero, suc, ◌+◌, ◌≤◌, arith, List, [], ◌∷◌, Bool, true, false, cond, ℤ, pos, ◌+ℤ◌}
 use Rattle.rx_linear.specs.Units.{at_most, at_least}
 use Rattle.rx_proof.specs.declared.query.Query.{Query}
 use Rattle.rx_proof.specs.Acceptance.{Node, with_row}
-use Rattle.rx_shadow.specs.Bounds.{narrowest, middle}
-use Rattle.rx_shadow.specs.Simple.{Outcome, Clash, TrueRows, Neither, outcome, clashes}
+use Rattle.rx_shadow.specs.Simple.{Outcome, outcome, clashes}
 use Rattle.rx_prover.specs.Walk.{Kind, Empty, Solved, Cases, Halves, kind, cases_or_leaf, leaf_or_halves, branch_nodes, half_nodes, Reached, Past, AtPoint, Over, in_turn, with_split, walk_kind, walk_from}
 use Rattle.rx_prover.specs.Trees.{is_inner}
 

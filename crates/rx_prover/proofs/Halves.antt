@@ -1,21 +1,20 @@
 -- The walk of a halving, the lower half first.
-use Rattle.std.proofs.Common.{◌≡◌, refl, sym, ap, ◌∙◌, subst, ℕ, ◌+◌, ◌≤◌, arith, List, [], ◌∷◌, Bool, true, false, cond, ◌&&◌, ◌==◌, ℤ, pos, ◌+ℤ◌, map, Option, Some, None, Vec, Global}
+use Rattle.std.proofs.Common.{◌≡◌, refl, sym, ap, ◌∙◌, subst, ℕ, ◌+◌, ◌≤◌, arith, [], ◌∷◌, Bool, true, cond, ◌&&◌, ◌==◌, ℤ, pos, ◌+ℤ◌, Some, None, Vec, Global}
 use Rattle.std.specs.Ordering.{int_eq}
 use Rattle.std.proofs.lemmas.Bool.Decides.{Decides-int_eq}
 use Rattle.rx_linear.specs.Units.{at_most, at_least}
-use Rattle.rx_linear.proofs.Joining.{both, and_true}
+use Rattle.rx_linear.proofs.Joining.{and_true}
 use Rattle.rx_proof.specs.declared.proof.Proof.{Proof, Halve}
-use Rattle.rx_proof.specs.Acceptance.{Node, with_row, accepted, can_halve}
+use Rattle.rx_proof.specs.Acceptance.{Node, with_row}
 use Rattle.rx_proof.proofs.Equations.{accepted_halve}
 use Rattle.rx_prover.specs.declared.tree.OpenTree.{OpenTree}
 use Rattle.rx_prover.specs.declared.tree.OpenTree as tree
-use Rattle.rx_prover.specs.declared.walked.Walked.{Walked}
 use Rattle.rx_prover.specs.declared.walked.Walked.TheVariants.{Closed, Found, Unfinished}
 use Rattle.rx_prover.specs.Walk.{Kind, Halves, kind, half_nodes, Reached, Past, AtPoint, Over, in_turn, walk_from}
-use Rattle.rx_prover.specs.Trees.{as_tree, inner_nodes, has_few_steps, follow, follow_each, Place, Walking, Stopped, halve_node, unreached}
-use Rattle.rx_prover.specs.Walked.{Goes, IsLowerDone, IsPointAt}
+use Rattle.rx_prover.specs.Trees.{as_tree, inner_nodes, has_few_steps, follow, follow_each, Walking, Stopped, halve_node}
+use Rattle.rx_prover.specs.Walked.{Goes, IsLowerDone}
 use Rattle.rx_prover.proofs.Equations.{as_tree_halve, nodes_halve, few_halve, follow_halve, nodes_open, few_open, follow_open}
-use Rattle.rx_prover.proofs.Ends.{below, walk_halves, one_down, turn_point, turn_over}
+use Rattle.rx_prover.proofs.Ends.{walk_halves, one_down}
 use Rattle.rx_prover.proofs.Progress.{inner_taken}
 use Rattle.rx_prover.proofs.Branches.{half_back}
 

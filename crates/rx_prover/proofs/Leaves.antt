@@ -1,16 +1,15 @@
 -- The leaves of a walk.
-use Rattle.std.proofs.Common.{◌≡◌, refl, sym, ap, ◌∙◌, subst, ℕ, ◌+◌, ◌≤◌, arith, List, [], Bool, true, false, cond, nat_le, ℤ, length, Option, Some, None, Vec, Global}
+use Rattle.std.proofs.Common.{◌≡◌, sym, ap, ◌∙◌, subst, ℕ, ◌≤◌, arith, List, Bool, true, cond, nat_le, ℤ, length, Some, None, Vec, Global}
 use Rattle.rx_linear.specs.declared.step.Step.{Step}
 use Rattle.rx_linear.specs.Steps.{closes}
 use Rattle.rx_proof.specs.declared.proof.Proof.{Proof, Close}
-use Rattle.rx_proof.specs.Acceptance.{Node, accepted}
+use Rattle.rx_proof.specs.Acceptance.{Node}
 use Rattle.rx_proof.proofs.Equations.{accepted_close}
 use Rattle.rx_prover.specs.declared.tree.OpenTree.{OpenTree}
 use Rattle.rx_prover.specs.declared.tree.OpenTree as tree
-use Rattle.rx_prover.specs.declared.walked.Walked.{Walked}
 use Rattle.rx_prover.specs.declared.walked.Walked.TheVariants.{Closed, Found, Unfinished}
-use Rattle.rx_prover.specs.Walk.{Kind, Empty, Solved, Cases, Halves, kind}
-use Rattle.rx_prover.specs.Trees.{as_tree, inner_nodes, has_few_steps, follow, Place, Walking, Stopped, closed_leaf, unreached, is_inner}
+use Rattle.rx_prover.specs.Walk.{Kind, Empty, Solved, kind}
+use Rattle.rx_prover.specs.Trees.{inner_nodes, has_few_steps, follow, Walking, Stopped, closed_leaf, unreached, is_inner}
 use Rattle.rx_prover.specs.Walked.{Goes, IsPointAt}
 use Rattle.rx_prover.proofs.Equations.{as_tree_close, nodes_close, nodes_open, few_close, few_open, follow_close, follow_open}
 use Rattle.rx_prover.proofs.Ends.{walk_at, walk_stopped}

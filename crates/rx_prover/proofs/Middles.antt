@@ -1,9 +1,8 @@
 -- The middle of a variable's values, and when its upper half is within the limits.
-use Rattle.std.proofs.Common.{◌≡◌, refl, sym, ap, ◌∙◌, subst, ℕ, zero, suc, ◌+◌, ◌*◌, ◌/◌, ◌%◌, ◌<◌, ◌≤◌, ◌^◌, arith, List, [], ◌∷◌, ◌++◌, map, length, replicate, max, Bool, true, false, cond, ◌&&◌, ◌||◌, ◌==◌, ℤ, pos, negsuc, neg_ℤ, ◌+ℤ◌, ◌-ℤ◌, ◌≤ℤ◌, ◌<ℤ◌, int_lt, unsigned_abs, Option, Some, None, option_map, inl, inr, ◌⊎◌}
+use Rattle.std.proofs.Common.{◌≡◌, refl, sym, ap, ◌∙◌, subst, ℕ, zero, suc, ◌*◌, ◌/◌, ◌%◌, ◌<◌, ◌≤◌, ◌^◌, arith, List, [], ◌∷◌, ◌++◌, map, length, replicate, max, Bool, true, false, cond, ◌||◌, ◌==◌, ℤ, pos, negsuc, neg_ℤ, ◌+ℤ◌, ◌-ℤ◌, ◌≤ℤ◌, ◌<ℤ◌, int_lt, unsigned_abs, Option, Some, None, option_map, inl, inr, ◌⊎◌}
 use Rattle.std.specs.List.{All, list_all, list_any, filter, fold}
-use Rattle.std.specs.Int.{int_max, int_min, int_div_euclid}
+use Rattle.std.specs.Int.{int_max, int_div_euclid}
 use Rattle.std.specs.Ordering.{int_eq}
-use Rattle.std.specs.Cmp.Lexicographic.{pointwise}
 use Rattle.std.specs.Cmp.Rules.{signed_items}
 use Rattle.std.proofs.lemmas.Int.{ints, by_lt_z}
 use Rattle.std.proofs.lemmas.Bool.{cases_lt}
@@ -18,7 +17,7 @@ use Rattle.rx_linear.specs.Units.{unit, unit_row, is_unit_row, at_most}
 use Rattle.rx_linear.proofs.Joining.{both, and_true}
 use Rattle.rx_proof.specs.Acceptance.{Node, with_row}
 use Rattle.rx_shadow.specs.Bounds.{greatest_of, greatest_lower, least_upper, bounds_clash, exceeds, HasUnitRows, narrowest, is_narrower, middle, middle_between}
-use Rattle.rx_shadow.specs.Simple.{Outcome, Clash, TrueRows, Neither, outcome, clashes, any_below}
+use Rattle.rx_shadow.specs.Simple.{TrueRows, Neither, outcome, clashes, any_below}
 use Rattle.rx_shadow.proofs.Closings.{unit_is, upper_is}
 use Rattle.rx_shadow.proofs.Greatest.{greatest_constant}
 use Rattle.rx_shadow.proofs.Raising.{no_unit}

@@ -1,14 +1,14 @@
 -- The rows and open disjunctions of a child, put on and taken off again.
-use Rattle.std.proofs.Common.{◌≡◌, refl, sym, ap, ◌∙◌, subst, ℕ, zero, suc, ◌+◌, ◌<◌, ◌≤◌, arith, List, [], ◌∷◌, ◌++◌, map, take, drop, length, length-append, get_or, add-one, Bool, true, ◌&&◌, ℤ, pos, negsuc, neg_ℤ}
+use Rattle.std.proofs.Common.{◌≡◌, refl, sym, ap, ◌∙◌, subst, ℕ, zero, suc, ◌+◌, ◌<◌, ◌≤◌, arith, List, [], ◌∷◌, ◌++◌, map, take, drop, length, length-append, get_or, add-one, true, pos, negsuc}
 use Rattle.std.specs.List.{list_any, remove}
 use Rattle.std.proofs.lemmas.List.{take-append-drop, drop-append-le, take-append-le, map-append, take_more}
 use Rattle.rx_linear.specs.declared.row.Row.{Row}
 use Rattle.rx_linear.specs.Systems.{LinearSystem}
-use Rattle.rx_linear.specs.Units.{is_unit_row, unit_row}
+use Rattle.rx_linear.specs.Units.{is_unit_row}
 use Rattle.rx_linear.specs.Joining.{joined}
 use Rattle.rx_linear.proofs.Joining.{both, and_true}
 use Rattle.rx_proof.specs.declared.query.Query.{Query, out-Query}
-use Rattle.rx_proof.specs.Acceptance.{Node, entered, with_row}
+use Rattle.rx_proof.specs.Acceptance.{entered, with_row}
 use Rattle.rx_proof.specs.Queries.{each_has_variables}
 use Rattle.rx_proof.proofs.Weights.{each-append}
 use Rattle.rx_proof.proofs.Nodes.{joined_front}

@@ -1,19 +1,17 @@
 -- What the walk of the root says of the query.
-use Rattle.std.proofs.Common.{◌≡◌, refl, sym, ap, ◌∙◌, subst, ℕ, ◌≤◌, arith, List, [], ◌++◌, true, map, take, drop, length}
-use Rattle.std.specs.List.{All}
+use Rattle.std.proofs.Common.{◌≡◌, sym, ap, ◌∙◌, subst, ℕ, arith, List, [], true, map, drop, length}
 use Rattle.rx_linear.specs.declared.row.Row.{Row}
-use Rattle.rx_linear.specs.Systems.{LinearSystem, FitsSystem}
+use Rattle.rx_linear.specs.Systems.{LinearSystem}
 use Rattle.rx_linear.specs.Joining.{joined}
 use Rattle.rx_proof.specs.declared.query.Query.{Query, out-Query}
-use Rattle.rx_proof.specs.declared.proof.Proof.{Proof}
 use Rattle.rx_proof.specs.Queries.{each_has_variables}
-use Rattle.rx_proof.specs.Acceptance.{Node, root}
+use Rattle.rx_proof.specs.Acceptance.{root}
 use Rattle.rx_proof.proofs.Exclusion.{accepts_sound}
 use Rattle.rx_prover.specs.declared.answer.Answer.{Answer}
 use Rattle.rx_prover.specs.declared.answer.Answer.TheVariants.{NoPoint, Point, Undecided}
 use Rattle.rx_prover.specs.declared.walked.Walked.{Walked}
 use Rattle.rx_prover.specs.declared.walked.Walked.TheVariants.{Closed, Found, Unfinished}
-use Rattle.rx_prover.specs.Walk.{Reached, Past, AtPoint, Over, walk, walk_from}
+use Rattle.rx_prover.specs.Walk.{Reached, Past, AtPoint, Over, walk}
 use Rattle.rx_prover.specs.Walked.{node_of, Goes, AnswerOf}
 use Rattle.rx_prover.specs.Answers.{AnswersReached, AnswersWalk, HasNoPoint, IfNoPoint}
 use Rattle.rx_prover.proofs.Branches.{root_point}

@@ -1,7 +1,7 @@
 -- The walk of a case, branch by branch.
-use Rattle.std.proofs.Common.{◌≡◌, refl, sym, ap, ◌∙◌, subst, ℕ, zero, suc, ◌+◌, ◌-◌, ◌<◌, ◌≤◌, arith, List, [], ◌∷◌, ◌++◌, map, take, drop, length, get_or, replicate, Bool, true, false, cond, ◌&&◌, ◌==◌, Option, Some, None, length-append, append_assoc, ℤ, Vec, Global}
+use Rattle.std.proofs.Common.{◌≡◌, refl, sym, ap, ◌∙◌, subst, ℕ, zero, suc, ◌+◌, ◌-◌, ◌<◌, ◌≤◌, arith, List, [], ◌∷◌, ◌++◌, map, take, drop, length, get_or, replicate, Bool, true, Option, Some, None, length-append, append_assoc, ℤ, Vec, Global}
 use Rattle.std.specs.List.{list_all, slice_get}
-use Rattle.std.proofs.lemmas.List.{map-append, length-map, take_more, drop_more, drop_all, take_all, take-append-drop, length-drop, length-take}
+use Rattle.std.proofs.lemmas.List.{map-append, length-map, take_more, drop_more, drop_all, take_all, take-append-drop, length-drop}
 use Rattle.std.proofs.lemmas.List.Folds.{list_all-append}
 use Rattle.rx_linear.proofs.Joining.{both, and_true}
 use Rattle.rx_linear.specs.Steps.{if_some}
@@ -11,14 +11,12 @@ use Rattle.rx_proof.specs.Acceptance.{Node, entered, accepted, each_accepts}
 use Rattle.rx_proof.proofs.Equations.{accepted_case}
 use Rattle.rx_prover.specs.declared.tree.OpenTree.{OpenTree}
 use Rattle.rx_prover.specs.declared.tree.OpenTree as tree
-use Rattle.rx_prover.specs.declared.walked.Walked.{Walked}
 use Rattle.rx_prover.specs.declared.walked.Walked.TheVariants.{Closed, Found, Unfinished}
 use Rattle.rx_prover.specs.Walk.{Kind, Cases, kind, branch_nodes, Reached, Past, AtPoint, Over, in_turn, walk_from}
-use Rattle.rx_prover.specs.Trees.{as_tree, total, inner_nodes, has_few_steps, follow, follow_each, Place, Walking, Stopped, case_node, inner, unreached}
-use Rattle.rx_prover.specs.Walked.{Goes, IsPointAt}
-use Rattle.rx_prover.specs.Answers.{IsClosed, IsProper}
+use Rattle.rx_prover.specs.Trees.{as_tree, total, inner_nodes, has_few_steps, follow, follow_each, Place, Walking, Stopped, case_node, inner}
+use Rattle.rx_prover.specs.Walked.{Goes}
 use Rattle.rx_prover.proofs.Equations.{as_tree_case, nodes_case, few_case, follow_case, nodes_open, few_open, follow_open}
-use Rattle.rx_prover.proofs.Ends.{below, walk_cases, one_down, turn_point, turn_over}
+use Rattle.rx_prover.proofs.Ends.{walk_cases, one_down, turn_point, turn_over}
 use Rattle.rx_prover.proofs.Branches.{point_back}
 
 -- ---- lists

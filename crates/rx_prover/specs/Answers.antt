@@ -9,7 +9,7 @@ use Rattle.std.specs.Prelude.{◌≡◌, ◌+◌, List, ℕ, ℤ, true, length, 
 use Rattle.rx_proof.specs.declared.query.Query.{Query, out-Query}
 use Rattle.rx_proof.specs.declared.proof.Proof.{Proof}
 use Rattle.rx_proof.specs.Queries.{satisfied}
-use Rattle.rx_proof.specs.Acceptance.{Node, root, accepted, accepts_proof}
+use Rattle.rx_proof.specs.Acceptance.{Node, root, accepted}
 use Rattle.rx_prover.specs.declared.tree.OpenTree.{OpenTree}
 use Rattle.rx_prover.specs.declared.answer.Answer.{Answer}
 use Rattle.rx_prover.specs.declared.answer.Answer.TheVariants.{NoPoint, Point, Undecided}

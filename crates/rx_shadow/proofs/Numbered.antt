@@ -1,9 +1,9 @@
 -- Known rows that have their places for their numbers.
-use Rattle.std.proofs.Common.{◌≡◌, refl, sym, ap, subst, ◌∙◌, ℕ, zero, suc, ◌+◌, ◌-◌, ◌*◌, ◌≤◌, List, [], ◌∷◌, ◌++◌, length-append, map, take, drop, length, get_or, replicate, unsigned_abs, ℤ, pos, ◌<◌, ◌^◌, Bool, true, false, cond, not, ◌&&◌, ◌||◌, ◌==◌, Option, Some, None, arith}
+use Rattle.std.proofs.Common.{◌≡◌, refl, sym, ap, subst, ◌∙◌, ℕ, zero, suc, ◌+◌, ◌-◌, ◌≤◌, List, [], ◌∷◌, ◌++◌, length-append, take, drop, length, get_or, replicate, unsigned_abs, ℤ, pos, ◌<◌, ◌^◌, Bool, true, false, cond, not, ◌||◌, ◌==◌, Option, Some, None, arith}
 use Rattle.std.specs.List.{All, list_any, slice_get}
 use Rattle.std.specs.Option.{MatchOption}
 use Rattle.std.proofs.Math.Seq.{drop-append_seam}
-use Rattle.std.proofs.lemmas.List.{map-append, length-map, drop_more, drop_all}
+use Rattle.std.proofs.lemmas.List.{drop_more, drop_all}
 use Rattle.std.proofs.lemmas.Bool.{eqb-true}
 use Rattle.std.proofs.lemmas.Bool.Decides.{nat_tests}
 use Rattle.std.proofs.lemmas.List.Elements.{All-nil, All-cons, All-append, All-head, All-tail}
@@ -17,12 +17,12 @@ use Rattle.rx_linear.specs.Rows.{AllBelow}
 use Rattle.rx_linear.specs.Units.{unit, unit_row}
 use Rattle.rx_linear.proofs.Stacked.{length-unit}
 use Rattle.rx_linear.specs.declared.step.Step.{Step}
-use Rattle.rx_linear.specs.Steps.{closes, last_is_false, if_some, step_gives, rows_after}
+use Rattle.rx_linear.specs.Steps.{closes, last_is_false, if_some}
 use Rattle.rx_linear.specs.Systems.{LinearSystem, IsWithinLimits}
 use Rattle.rx_linear.specs.Joining.{is_false, joined, all_hold}
-use Rattle.rx_shadow.specs.Simple.{clashes, Outcome, Clash, TrueRows, Neither, outcome}
+use Rattle.rx_shadow.specs.Simple.{clashes, Outcome, Clash, TrueRows, Neither}
 use Rattle.rx_shadow.specs.Bounds.{narrowest}
-use Rattle.rx_shadow.specs.Derivations.{IsDerived, IsClosing, Derives}
+use Rattle.rx_shadow.specs.Derivations.{IsDerived, IsClosing}
 use Rattle.rx_shadow.specs.declared.known.Derived.{Derived}
 use Rattle.rx_shadow.specs.declared.solving.Solved.{Solved}
 use Rattle.rx_shadow.specs.declared.solving.Solved.TheVariants.{Point, Closed, NotSimple}

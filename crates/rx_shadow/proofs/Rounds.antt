@@ -20,6 +20,7 @@ use Rattle.rx_shadow.specs.Bounds.{IsBounded, fixed_value, narrowest}
 use Rattle.rx_shadow.specs.Simple.{Outcome, Clash, TrueRows, Neither, clashes, has, has_unit_pairs, without, is_exact, eliminated, replaced}
 use Rattle.rx_shadow.specs.Known.{rows_of, AllFit}
 use Rattle.rx_shadow.specs.Derivations.{IsDerived, IsClosing, Eliminates}
+use Rattle.rx_shadow.specs.Joined.{IsSolvedAt}
 use Rattle.rx_shadow.specs.Solving.{IsFound, IsPlaced, CanPlace, IsClosedBy, IsOrigin, IsSolved, IfClosed, HasNoPoint}
 use Rattle.rx_shadow.proofs.Derivations.{rows_after-push, step_at_rows}
 use Rattle.rx_shadow.proofs.Leaving.{rows_of_filter}
@@ -52,14 +53,19 @@ found_clash rounds narrow rows step (Closed steps) c by = (
       ap (closes given) by ∙ closes_push given rows.steps.items step d.taken.0 r.0 d.taken.1 (step_at_rows given rows.steps.items d.taken.0 step r.0 d.taken.1 r.1) r.2,
 )
 
+pub origin_at : (n : ℕ) (rows : List Row) (solved : Solved) → clashes n rows ≡ false → list_all has_no_variable rows ≡ true → IsOrigin n solved → IsSolvedAt n rows TrueRows solved
+origin_at n rows (Closed steps) c h o = absurd o
+origin_at n rows (NotSimple variable) c h o = absurd o
+origin_at n rows (Point point) c h o = record {
+  whole = ap length o ∙ length-replicate n (pos 0);
+  small = All-same (λ z. unsigned_abs z < 2 ^ 100) point.items (replicate n (pos 0)) o (All-replicate (λ z. unsigned_abs z < 2 ^ 100) n (pos 0) (omega arith));
+  holds = ap (λ (p : List ℤ). all_hold p rows) o ∙ plain_hold (replicate n (pos 0)) rows (no_clash n rows c) h;
+}
+
 pub found_origin : (rounds narrow : ℕ) (rows : Derived) (solved : Solved) → clashes rows.variables (rows_of rows.known.items) ≡ false → list_all has_no_variable (rows_of rows.known.items) ≡ true → IsOrigin rows.variables solved → IsFound rounds narrow rows TrueRows solved
 found_origin rounds narrow rows (Closed steps) c h o = absurd o
 found_origin rounds narrow rows (NotSimple variable) c h o = absurd o
-found_origin rounds narrow rows (Point point) c h o = record {
-  whole = ap length o ∙ length-replicate rows.variables (pos 0);
-  small = All-same (λ z. unsigned_abs z < 2 ^ 100) point.items (replicate rows.variables (pos 0)) o (All-replicate (λ z. unsigned_abs z < 2 ^ 100) rows.variables (pos 0) (omega arith));
-  holds = ap (λ (p : List ℤ). all_hold p (rows_of rows.known.items)) o ∙ plain_hold (replicate rows.variables (pos 0)) (rows_of rows.known.items) (no_clash rows.variables (rows_of rows.known.items) c) h;
-}
+found_origin rounds narrow rows (Point point) c h o = origin_at rows.variables (rows_of rows.known.items) (Point point) c h o
 
 -- ---- the rows without the variable hold whatever its number
 

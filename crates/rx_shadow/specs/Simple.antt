@@ -3,6 +3,7 @@
 --   is_exact           a variable may be eliminated with no loss of an integer point
 --   eliminated         the rows that the elimination of a variable leaves
 --   outcome, IsSimple  what repeated elimination comes to
+--   IsTested           what a round has found before it eliminates
 use Rattle.std.specs.Prelude.{◌≡◌, List, ℕ, zero, suc, Bool, false, cond, not, ◌&&◌, ◌||◌, nat_le, ℤ, pos, negsuc, neg_ℤ, int_lt, length, map, Option, Some, None}
 use Rattle.std.specs.List.{list_all, list_any, filter, flat_map}
 use Rattle.std.specs.Option.{is_some}
@@ -114,6 +115,12 @@ outcome_in n (suc rounds) rows = round (outcome_in n rounds) n rows
 -- what the elimination of the exact variables of these rows over n variables comes to; each round takes one variable away, so n rounds do
 abbrev pub outcome : ℕ → List Row → Outcome
 outcome n rows = outcome_in n n rows
+
+-- the rows neither clash nor are without variables, and that is their greatest exact variable, if there is one
+pub record IsTested (n : ℕ) (rows : List Row) (found : Option ℕ) : Type 0 where
+  pub no_clash : clashes n rows ≡ false
+  pub not_plain : list_all has_no_variable rows ≡ false
+  pub greatest : greatest_below (is_exact rows) n ≡ found
 
 -- the rows over n variables are those of a Simple system
 abbrev pub IsSimple : ℕ → List Row → Type 0

@@ -1,11 +1,11 @@
 // The unit bounds of variables.
-ghost use Rattle.std.specs.Prelude.{◌≡◌, ◌<◌, ◌^◌, ◌-ℤ◌, ◌+ℤ◌, unsigned_abs, None, false, ◌⊎◌, length, IfSome, IsSomeAnd, Some, true, pos, negsuc, neg_ℤ, int_lt, option_map, map, ℤ, MatchOption};
+ghost use Rattle.std.specs.Prelude.{◌≡◌, ◌<◌, ◌^◌, ◌-ℤ◌, ◌+ℤ◌, unsigned_abs, None, false, ◌⊎◌, length, IfSome, IsSomeAnd, Some, true, pos, negsuc, neg_ℤ, int_lt, int_le, ◌&&◌, ◌||◌, option_map, map, ℤ, MatchOption};
 ghost use Rattle.std.specs.List.{All, Contains, filter};
 ghost use Rattle.std.specs.Int.{int_div_euclid};
 ghost use Rattle.std.specs.Ordering.{int_eq};
 ghost use Rattle.rx_linear.specs.Rows.{Narrow};
 ghost use Rattle.rx_linear.specs.Units.{is_unit_row};
-ghost use Rattle.rx_shadow.specs.Bounds.{greatest_of, raised, bounds_clash, fixed_value, width, is_narrower, narrowest, middle};
+ghost use Rattle.rx_shadow.specs.Bounds.{greatest_of, raised, bounds_clash, fixed_value, width, narrowest, middle};
 ghost use Rattle.rx_shadow.specs.Known.{rows_of, AllFit};
 ghost use Rattle.rx_shadow.specs.BoundRows.{AreBounds, LacksBound};
 ghost use Rattle.rx_shadow.specs.Derivations.{IsClosing};
@@ -131,16 +131,11 @@ fn width(variable: usize, variables: usize, known: &[Known]) -> i128
     }
 }
 
-/// Whether the first variable has two or more values, and the second fewer than two or more than the first.
-fn is_narrower(first: usize, second: usize, variables: usize, known: &[Known]) -> bool
-    requires first { first < variables }
-    requires second { second < variables }
-    requires fit { AllFit variables known.now }
-    ensures { result ≡ is_narrower (rows_of known.now) first second }
+/// Whether the first width is that of two or more values, and the second that of fewer than two or of more than the first.
+fn is_narrower(first: &i128, second: &i128) -> bool
+    ensures { result ≡ (int_lt (pos 0) first.now && (int_le second.now (pos 0) || int_lt first.now second.now)) }
 {
-    let first_width = width(first, variables, known);
-    let second_width = width(second, variables, known);
-    first_width > 0 && (second_width <= 0 || first_width < second_width)
+    *first > 0 && (*second <= 0 || *first < *second)
 }
 
 /// The variable with the fewest values of those with two or more, on a tie the least; 0 where there is none.
@@ -148,10 +143,16 @@ pub(crate) fn narrowest(variables: usize, known: &[Known]) -> usize
     requires { AllFit variables known.now }
     ensures { result ≡ narrowest variables (rows_of known.now) }
 {
+    if variables == 0 {
+        return 0;
+    }
     let mut best = 0;
-    for variable in 0..variables {
-        if is_narrower(variable, best, variables, known) {
+    let mut least = width(0, variables, known);
+    for variable in 1..variables {
+        let next = width(variable, variables, known);
+        if is_narrower(&next, &least) {
             best = variable;
+            least = next;
         }
     }
     best

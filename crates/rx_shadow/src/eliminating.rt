@@ -27,8 +27,8 @@ fn split(
     ensures kept { IfOk result (λ parts. parts.0.items ≡ filter (λ k. int_eq (coefficient variable k.row) (pos 0)) known.items) }
     ensures leaving { IfOk result (λ parts. parts.1.items ≡ filter (λ k. has variable k.row) known.items) }
 {
-    let mut kept = Vec::new(alloc);
-    let mut leaving = Vec::new(alloc);
+    let mut kept = Vec::with_capacity(alloc, known.len())?;
+    let mut leaving = Vec::with_capacity(alloc, known.len())?;
     for k in known {
         if has_coefficient(&k.row, variable, &0) {
             kept.push(k)?;

@@ -1,21 +1,21 @@
 // Rows joined one after another, as a search keeps them: put on and taken off at the end.
-ghost use Rattle.std.specs.Prelude.{◌≡◌, ◌<◌, ◌≤◌, ◌^◌, List, [], ◌∷◌, length, take, true, false, ℕ, unsigned_abs, IfOk, OnOk, MatchOption};
+ghost use Rattle.std.specs.Prelude.{◌≡◌, ◌<◌, ◌≤◌, ◌^◌, List, [], ◌∷◌, length, take, true, false, ℕ, unsigned_abs, IfOk, OnOk, MatchOption, Some};
 ghost use Rattle.std.specs.List.{All};
 ghost use Rattle.rx_linear.specs.Systems.{FitsSystem, IsWithinLimits};
 ghost use Rattle.rx_linear.specs.Joining.{joined, joined_one};
 ghost use Rattle.rx_linear.specs.Steps.{closes};
 ghost use Rattle.rx_linear.specs.Units.{unit_row};
 ghost use Rattle.rx_shadow.specs.Bounds.{HasUnitRows, middle};
-ghost use Rattle.rx_shadow.specs.Simple.{clashes, outcome};
+ghost use Rattle.rx_shadow.specs.Simple.{clashes, outcome, IsTested};
 ghost use Rattle.rx_shadow.specs.Known.{rows_of};
 ghost use Rattle.rx_shadow.specs.Joined.{IsJoined, IsSolvedAt};
 
 use crate::bounds::{middle, narrowest};
-use crate::exact::clash;
+use crate::exact::{are_plain, clash, greatest_exact};
 use crate::known::{Derived, Known};
-use crate::solving::{is_new, search};
+use crate::solving::{is_new, origin, search_exact};
 use crate::{NoMemory, Solved};
-use rx_linear::{Row, Step, tighten};
+use rx_linear::{Row, Step, tighten, tightened};
 use sqlite_items::Items;
 use std::alloc::Global;
 use std::marker::Model;
@@ -101,6 +101,45 @@ fn copied(alloc: Global, known: &[Known]) -> Result<Vec<Known>, NoMemory>
     Ok(copy)
 }
 
+/// What joined rows come to by the elimination of their greatest exact variable.
+fn solve_exact(
+    alloc: Global,
+    variable: usize,
+    variables: usize,
+    known: &[Known],
+) -> Result<Solved, NoMemory>
+    requires joined { IsJoined variables known.now }
+    requires bounded { HasUnitRows variables (rows_of known.now) }
+    requires tested { IsTested variables (rows_of known.now) (Some variable) }
+    ensures { IfOk result (λ solved. IsSolvedAt variables (rows_of known.now) (outcome variables (rows_of known.now)) solved) }
+{
+    let narrow = narrowest(variables, known);
+    let copy = copied(alloc, known)?;
+    let rows = Derived {
+        variables,
+        given: copy.len(),
+        known: copy,
+        steps: Vec::new(alloc),
+    };
+    search_exact(alloc, variable, variables, narrow, rows)
+}
+
+/// What joined rows that do not clash come to. They are copied only where a variable is exact.
+fn solve_apart(alloc: Global, variables: usize, known: &[Known]) -> Result<Solved, NoMemory>
+    requires joined { IsJoined variables known.now }
+    requires bounded { HasUnitRows variables (rows_of known.now) }
+    requires apart { clashes variables (rows_of known.now) ≡ false }
+    ensures { IfOk result (λ solved. IsSolvedAt variables (rows_of known.now) (outcome variables (rows_of known.now)) solved) }
+{
+    if are_plain(known) {
+        return origin(alloc, variables);
+    }
+    match greatest_exact(variables, known) {
+        Some(variable) => solve_exact(alloc, variable, variables, known),
+        None => Ok(Solved::NotSimple(narrowest(variables, known))),
+    }
+}
+
 impl JoinedRows {
     /// No rows.
     pub fn new(alloc: Global, variables: usize) -> JoinedRows
@@ -162,7 +201,7 @@ impl JoinedRows {
         ensures { OnOk result (self.new ≡ record self.old { rows = joined self.old.rows (unit_row self.old.variables variable coefficient.now least.now ∷ []) }) }
     {
         let row = unit_row(alloc, self.variables, variable, coefficient, least)?;
-        self.join(alloc, &row)
+        keep_new(&mut self.known, tightened(row))
     }
 
     /// Leaves the first `count` rows.
@@ -188,19 +227,12 @@ impl JoinedRows {
         middle(variable, self.variables, &self.known)
     }
 
-    /// A point of the rows, steps that close them, or that they are not those of a Simple system.
+    /// A point of rows that do not clash, steps that close them, or that they are not those of a Simple system.
     pub fn solve(&self, alloc: Global) -> Result<Solved, NoMemory>
-        requires { HasUnitRows self.now.variables self.now.rows }
+        requires bounded { HasUnitRows self.now.variables self.now.rows }
+        requires apart { clashes self.now.variables self.now.rows ≡ false }
         ensures { IfOk result (λ solved. IsSolvedAt self.now.variables self.now.rows (outcome self.now.variables self.now.rows) solved) }
     {
-        let known = copied(alloc, &self.known)?;
-        let narrow = narrowest(self.variables, &known);
-        let rows = Derived {
-            variables: self.variables,
-            given: known.len(),
-            known,
-            steps: Vec::new(alloc),
-        };
-        search(alloc, self.variables, narrow, rows)
+        solve_apart(alloc, self.variables, &self.known)
     }
 }

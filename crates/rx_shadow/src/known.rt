@@ -11,7 +11,7 @@ ghost use Rattle.rx_shadow.specs.Derivations.{row_given, Derives, Reaches, Conti
 
 use crate::NoMemory;
 use crate::rows::{is_narrow, is_true, same_row};
-use rx_linear::{Row, Step, combine, tighten};
+use rx_linear::{Row, Step, combine, tightened};
 use std::alloc::Global;
 
 /// The greatest number of rows that an elimination may leave.
@@ -71,16 +71,16 @@ impl Derived {
     }
 
     /// Joins the row that the step derives: whether that keeps the limits.
-    fn join(&mut self, alloc: Global, step: Step, row: &Row) -> Result<bool, NoMemory>
+    fn join(&mut self, step: Step, row: Row) -> Result<bool, NoMemory>
         requires room { HasRoom self.old }
         requires fits { AllFit self.old.variables self.old.known.items }
-        requires length { length row.now.coefficients ≡ self.old.variables }
-        requires wide { Wide row.now }
-        ensures reached { IfOk result (λ within. Reaches within (joined (rows_of self.old.known.items) (row.now ∷ [])) (rows_of self.new.known.items)) }
+        requires length { length row.coefficients ≡ self.old.variables }
+        requires wide { Wide row }
+        ensures reached { IfOk result (λ within. Reaches within (joined (rows_of self.old.known.items) (row ∷ [])) (rows_of self.new.known.items)) }
         ensures continues { OnOk result (Continues self.old self.new) }
-        ensures derived { OnOk result ((given : List Row) (others : List Known) → row_given given self.old.steps.items step ≡ Some row.now → Derives given self.old others → Derives given self.new others) }
+        ensures derived { OnOk result ((given : List Row) (others : List Known) → row_given given self.old.steps.items step ≡ Some row → Derives given self.old others → Derives given self.new others) }
     {
-        let last = tighten(alloc, row)?;
+        let last = tightened(row);
         if is_true(&last) || is_there(&last, &self.known) {
             return Ok(true);
         }
@@ -117,6 +117,6 @@ impl Derived {
             right: right.number,
             right_times,
         };
-        self.join(alloc, step, &row)
+        self.join(step, row)
     }
 }

@@ -14,32 +14,7 @@ use crate::bounds::greatest_unit;
 use crate::known::Known;
 use crate::rows::{coefficient, is_positive};
 use crate::solving::Solved;
-use rx_linear::Row;
-
-fn product(coefficient: i128, number: i128) -> i128
-    requires coefficient_small { unsigned_abs coefficient < 2 ^ 20 }
-    requires number_small { unsigned_abs number < 2 ^ 100 }
-    ensures value { result ≡ coefficient *ℤ number }
-    ensures bound { unsigned_abs result < 2 ^ 120 }
-{
-    coefficient * number
-}
-
-/// The sum of coefficient times variable, for at most 96 of them.
-fn sum_of_products(coefficients: &[i128], point: &[i128]) -> i128
-    requires same_length { length coefficients.now ≡ length point.now }
-    requires few { length coefficients.now ≤ 96 }
-    requires coefficients_small { AllBelow (2 ^ 20) coefficients.now }
-    requires point_small { AllBelow (2 ^ 100) point.now }
-    ensures value { result ≡ product_sum coefficients.now point.now }
-    ensures bound { unsigned_abs result ≤ 96 * 2 ^ 120 }
-{
-    let mut sum = 0;
-    for i in 0..coefficients.len() {
-        sum += product(coefficients[i], point[i]);
-    }
-    sum
-}
+use rx_linear::{Row, sum_of_products};
 
 /// How much the row lacks at the point, where it does not hold.
 fn lack(row: &Row, point: &[i128]) -> Option<i128>

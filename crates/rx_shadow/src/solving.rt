@@ -10,7 +10,7 @@ ghost use Rattle.rx_linear.specs.Systems.{FitsSystem};
 ghost use Rattle.rx_linear.specs.Units.{is_unit_row};
 ghost use Rattle.rx_shadow.specs.declared.known.Known.{Known};
 ghost use Rattle.rx_shadow.specs.Bounds.{IsBounded, has_unit_rows, HasUnitRows};
-ghost use Rattle.rx_shadow.specs.Simple.{outcome, outcome_in};
+ghost use Rattle.rx_shadow.specs.Simple.{outcome, outcome_in, IsTested};
 ghost use Rattle.rx_shadow.specs.Known.{rows_of, AllFit};
 ghost use Rattle.rx_shadow.specs.Derivations.{IsDerived, IsClosing};
 ghost use Rattle.rx_shadow.specs.Solving.{IsClosedBy, IsOrigin, IsFound, IsSolved, IfClosed, HasNoPoint};
@@ -70,7 +70,7 @@ fn closed(mut steps: Vec<Step>, step: Step) -> Result<Solved, NoMemory>
 }
 
 /// The point at which each variable is 0.
-fn origin(alloc: Global, variables: usize) -> Result<Solved, NoMemory>
+pub(crate) fn origin(alloc: Global, variables: usize) -> Result<Solved, NoMemory>
     ensures { IfOk result (λ solved. IsOrigin variables solved) }
 {
     let point = vec![in alloc; 0; variables]?;
@@ -78,12 +78,8 @@ fn origin(alloc: Global, variables: usize) -> Result<Solved, NoMemory>
 }
 
 /// What at most so many rounds of exact elimination come to.
-pub(crate) fn search(
-    alloc: Global,
-    rounds: usize,
-    narrow: usize,
-    rows: Derived,
-) -> Result<Solved, NoMemory>
+#[cycle(search)]
+fn search(alloc: Global, rounds: usize, narrow: usize, rows: Derived) -> Result<Solved, NoMemory>
     requires few_variables { rows.variables ≤ 192 }
     requires fits { AllFit rows.variables rows.known.items }
     requires few_given { rows.given < 2 ^ 60 }
@@ -101,6 +97,27 @@ pub(crate) fn search(
     let Some(variable) = greatest_exact(rows.variables, &rows.known) else {
         return Ok(Solved::NotSimple(narrow));
     };
+    search_exact(alloc, variable, rounds, narrow, rows)
+}
+
+/// What at most so many rounds come to, of which the first eliminates the greatest exact variable.
+#[cycle(search)]
+pub(crate) fn search_exact(
+    alloc: Global,
+    variable: usize,
+    rounds: usize,
+    narrow: usize,
+    rows: Derived,
+) -> Result<Solved, NoMemory>
+    requires few_variables { rows.variables ≤ 192 }
+    requires fits { AllFit rows.variables rows.known.items }
+    requires few_given { rows.given < 2 ^ 60 }
+    requires few_steps { length rows.steps.items + 2048 * rounds < 2 ^ 58 }
+    requires lower { IsBounded (pos 1) rows.variables (rows_of rows.known.items) }
+    requires upper { IsBounded (negsuc 0) rows.variables (rows_of rows.known.items) }
+    requires tested { IsTested rows.variables (rows_of rows.known.items) (Some variable) }
+    ensures { IfOk result (λ solved. IsFound rounds narrow rows (outcome_in rows.variables rounds (rows_of rows.known.items)) solved) }
+{
     if rounds == 0 {
         return Ok(Solved::NotSimple(narrow));
     }

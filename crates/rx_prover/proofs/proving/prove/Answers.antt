@@ -1,10 +1,9 @@
-use Rattle.std.proofs.Common.{◌≡◌, sym, ap, ◌∙◌, subst, ℕ, List, map}
+use Rattle.std.proofs.Common.{ap, ◌∙◌, subst, map}
 use Rattle.rx_linear.specs.Systems.{LinearSystem}
-use Rattle.rx_proof.specs.declared.query.Query.{Query, out-Query}
+use Rattle.rx_proof.specs.declared.query.Query.{out-Query}
 use Rattle.rx_proof.specs.Acceptance.{Node}
 use Rattle.rx_proof.proofs.Weights.{has_variables_out}
 use Rattle.rx_prover.specs.Walked.{Goes}
-use Rattle.rx_prover.specs.Answers.{AnswersWalk}
 use Rattle.rx_prover.proofs.Outcomes.{answers_walk, no_point, root_node, root_even, put_all}
 use Rattle.rx_prover.proofs.proving.prove.Goals as goal
 

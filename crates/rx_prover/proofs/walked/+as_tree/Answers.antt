@@ -1,6 +1,4 @@
-use Rattle.std.proofs.Common.{◌≡◌, sym, ap, ◌∙◌, subst, List, map, take, ℤ, rules, Result, Ok, Err}
-use Rattle.std.specs.Result.{IfOk}
-use Rattle.std.proofs.lemmas.List.{take_all}
+use Rattle.std.proofs.Common.{◌≡◌, sym, ap, ◌∙◌, List, map}
 use Rattle.rx_linear.specs.declared.step.Step.{Step}
 use Rattle.rx_proof.specs.declared.proof.Proof.{Proof}
 use Rattle.rx_shadow.proofs.Initial.{if_ok}

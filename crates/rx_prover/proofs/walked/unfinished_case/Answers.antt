@@ -1,4 +1,4 @@
-use Rattle.std.proofs.Common.{◌≡◌, ◌+◌, ap, arith, length, map}
+use Rattle.std.proofs.Common.{◌+◌, arith, length, map}
 use Rattle.rx_prover.specs.Trees.{as_tree}
 use Rattle.rx_prover.proofs.Progress.{open_more}
 use Rattle.rx_prover.proofs.walked.unfinished_case.Goals as goal

@@ -1,35 +1,31 @@
-use Rattle.std.proofs.Common.{◌≡◌, refl, sym, ap, ◌∙◌, subst, ℕ, ◌+◌, ◌-◌, ◌<◌, ◌≤◌, ◌^◌, arith, rules, List, [], ◌∷◌, ◌++◌, map, take, drop, length, true, false, ℤ, pos, neg_ℤ, ◌+ℤ◌, unsigned_abs, to_z, of_z, replicate, get_or}
+use Rattle.std.proofs.Common.{sym, ap, ◌∙◌, subst, ℕ, ◌+◌, ◌-◌, ◌<◌, ◌^◌, arith, List, [], ◌∷◌, ◌++◌, map, drop, length, ℤ, pos, neg_ℤ, ◌+ℤ◌, unsigned_abs, to_z, of_z, replicate}
 use Rattle.std.specs.List.{All, remove}
-use Rattle.rx_linear.specs.declared.row.Row.{Row}
 use Rattle.rx_linear.specs.Systems.{LinearSystem, FitsSystem}
 use Rattle.rx_linear.specs.Units.{unit_row}
 use Rattle.rx_proof.specs.declared.query.Query.{Query, out-Query}
-use Rattle.rx_proof.specs.Queries.{has_variables, each_has_variables}
-use Rattle.rx_proof.specs.Acceptance.{Node, entered, with_row}
+use Rattle.rx_proof.specs.Queries.{each_has_variables}
+use Rattle.rx_proof.specs.Acceptance.{Node, entered}
 use Rattle.rx_proof.proofs.Nodes.{joined_longer}
-use Rattle.rx_proof.proofs.Weights.{has_variables_out, each-append}
+use Rattle.rx_proof.proofs.Weights.{has_variables_out}
 use Rattle.std.specs.Int.{w128}
 use Rattle.rx_linear.specs.declared.step.Step.{Step}
-use Rattle.rx_linear.specs.Units.{at_most}
 use Rattle.rx_proof.specs.declared.proof.Proof.{Proof}
 use Rattle.rx_proof.specs.declared.proof.Proof as proof
 use Rattle.rx_proof.proofs.Nodes.{low_code, low_small}
 use Rattle.rx_shadow.specs.declared.solving.Solved.{Solved}
-use Rattle.rx_shadow.specs.Bounds.{HasUnitRows, middle}
+use Rattle.rx_shadow.specs.Bounds.{HasUnitRows}
 use Rattle.rx_shadow.specs.Simple.{outcome}
 use Rattle.rx_shadow.specs.Joined.{IsSolvedAt}
 use Rattle.rx_shadow.proofs.Initial.{if_ok}
 use Rattle.rx_prover.specs.declared.tree.OpenTree.{OpenTree}
 use Rattle.rx_prover.specs.declared.tree.OpenTree as tree
-use Rattle.rx_prover.specs.declared.walked.Walked.{Walked}
 use Rattle.rx_prover.specs.declared.walked.Walked.TheVariants as walked
-use Rattle.rx_prover.specs.Walk.{kind, Cases}
 use Rattle.rx_prover.specs.Trees.{as_tree}
 use Rattle.rx_prover.specs.Walked.{node_of, Goes, IsLowerDone}
 use Rattle.rx_prover.proofs.Progress.{Progress, progress_more, goes_case, goes_case_point, goes_case_unfinished}
 use Rattle.rx_prover.proofs.Halves.{goes_lower_point, goes_lower_unfinished, goes_upper_closed, goes_upper_point, goes_upper_unfinished}
 use Rattle.rx_prover.proofs.Calls.{goes_clash, leaf_closed, leaf_found, IsHard, variable_within, hard_small, hard_kind, upper_small, lower_done, moved, hard_stopped, case_stopped, case_kind, same_cast, negation_fits, next_cast}
-use Rattle.rx_prover.proofs.Nodes.{bounded_after, cut_rows, put_after, first_taken, none_even, branch_even, branch_node, half_node, same_branch, none_after}
+use Rattle.rx_prover.proofs.Nodes.{bounded_after, cut_rows, put_after, first_taken, none_even, branch_even, branch_node, same_branch, none_after}
 use Rattle.rx_prover.proofs.walking.+walk.Goals as goal
 
 pub walk-returns-in-Some-clause-goes : goal.walk-returns-in-Some-clause-goes

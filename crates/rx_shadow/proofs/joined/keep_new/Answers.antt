@@ -1,4 +1,4 @@
-use Rattle.std.proofs.Common.{◌≡◌, sym, ap, subst, ◌++◌, ◌∷◌, [], length, rules}
+use Rattle.std.proofs.Common.{◌≡◌, sym, subst, length, rules}
 use Rattle.rx_shadow.specs.Joined.{IsJoined}
 use Rattle.rx_shadow.proofs.Numbered.{joined_more}
 use Rattle.rx_shadow.proofs.joined.keep_new.Goals as goal

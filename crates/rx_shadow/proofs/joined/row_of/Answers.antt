@@ -1,4 +1,4 @@
-use Rattle.std.proofs.Common.{◌≡◌, ap, ℤ, FitsSigned, to_z, of_z, rules}
+use Rattle.std.proofs.Common.{ap, ℤ, FitsSigned, rules}
 use Rattle.std.specs.Int.{w128}
 use Rattle.std.proofs.lemmas.Int.{to_z-of_z}
 use Rattle.rx_linear.specs.declared.row.Row.{Row}

@@ -1,4 +1,4 @@
-use Rattle.std.proofs.Common.{◌≡◌, ◌∙◌, sym, ap, List, ℤ, pos, replicate, set, FitsSigned, to_z, of_z, rules}
+use Rattle.std.proofs.Common.{◌≡◌, ◌∙◌, ap, List, ℤ, pos, replicate, FitsSigned, to_z, of_z, rules}
 use Rattle.std.specs.Int.{w128}
 use Rattle.std.proofs.lemmas.Int.{to_z-of_z}
 use Rattle.rx_linear.specs.declared.row.Row.{Row}
