@@ -1,5 +1,5 @@
 -- The end of the last entry.
-use Rattle.std.proofs.Common.{◌≡◌, suc, ◌-◌, List, [], ◌∷◌, length, Some, None, refl, sym, ap, ◌∙◌, arith}
+use Rattle.std.proofs.Common.{◌≡◌, suc, ◌-◌, List, [], ◌∷◌, length, Some, None, sym, ap, ◌∙◌, arith}
 use Rattle.std.specs.Prelude.{pos, ◌+ℤ◌, slice_get}
 use Rattle.rx_types.specs.declared.env.Entry.{Entry}
 use Rattle.rx_types.specs.Environment.{places, end_of}

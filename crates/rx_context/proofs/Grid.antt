@@ -10,12 +10,12 @@ use Rattle.rx_types.specs.Tree.{Tree, Number, Truth, Field, First, Last, Size, T
 use Rattle.rx_types.specs.Value.{value_of}
 use Rattle.rx_types.proofs.Statics.{static_everywhere}
 use Rattle.rx_graph.specs.declared.message.Node.{Node}
-use Rattle.rx_graph.specs.declared.message.Node.TheVariants.{Start, At, Null}
-use Rattle.rx_graph.specs.Checks.{IsMultipleOf8, HasGrid, size_to}
+use Rattle.rx_graph.specs.declared.message.Node.TheVariants.{Start, At}
+use Rattle.rx_graph.specs.Checks.{IsMultipleOf8, HasGrid}
 use Rattle.rx_graph.specs.Cycles.{IsLink, IsPath}
 use Rattle.rx_graph.specs.Graph.{Arrow, Graph, type_of, limit_of}
 use Rattle.rx_graph.specs.Paths.{value_or, first_of, size_of_target, Places, Leads, Exclusive}
-use Rattle.rx_context.specs.Plain.{IsStaticMultiple, IsEightTimes, IsPlainSize, size_at, size_if_any, size_through, scalar_bits, IsOnBytes, IsPlain}
+use Rattle.rx_context.specs.Plain.{IsStaticMultiple, IsEightTimes, IsPlainSize, size_at, size_if_any, size_through, scalar_bits, IsPlain}
 
 -- ---- ends, paths and sums
 

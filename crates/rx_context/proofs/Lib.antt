@@ -3,6 +3,7 @@ pub mod Operators
 pub mod Chains
 pub mod Ends
 pub mod Grid
+pub mod Headed
 pub mod Lookup
 pub mod OnPath
 pub mod Placing

@@ -1,8 +1,7 @@
 -- What is known at each turn of the walk.
-use Rattle.std.proofs.Common.{◌≡◌, ℕ, ◌+◌, ◌*◌, ◌<◌, ◌≤◌, ◌^◌, Bool, true, false, List, [], ◌∷◌, ◌++◌, length, Option, Some, refl, sym, ap, ◌∙◌, subst, arith}
+use Rattle.std.proofs.Common.{◌≡◌, ℕ, ◌*◌, ◌<◌, ◌≤◌, ◌^◌, List, [], ◌∷◌, ◌++◌, length, refl, sym, ap, ◌∙◌, subst}
 use Rattle.std.specs.Prelude.{pos}
 use Rattle.std.specs.List.{AllByRecursion}
-use Rattle.rx_types.specs.declared.stuck.Reason.{Reason}
 use Rattle.rx_types.specs.declared.stuck.Stuck.{Stuck}
 use Rattle.rx_types.specs.Domain.{Domain}
 use Rattle.rx_types.specs.Environment.{Placed, in_message, end_of, bits_of, AreDistinct}
@@ -12,9 +11,8 @@ use Rattle.rx_graph.specs.declared.message.Node.TheVariants.{Start, At}
 use Rattle.rx_graph.specs.Graph.{Arrow, Graph, limit_of}
 use Rattle.rx_graph.specs.Cycles.{IsLink}
 use Rattle.rx_graph.specs.Paths.{Places, Leads, IsPartial, Ends, IsReadBy}
-use Rattle.rx_graph.specs.Elaborated.{IsElaborated}
-use Rattle.rx_graph.specs.Stuck.{IsReason, IsStuck}
-use Rattle.rx_graph.specs.Fits.{by_buffer, Reads, ReadsNothing, StopsAt}
+use Rattle.rx_graph.specs.Stuck.{IsReason}
+use Rattle.rx_graph.specs.Fits.{by_buffer}
 use Rattle.rx_graph.proofs.Unique.{leads_on, one_path}
 use Rattle.rx_graph.proofs.Distinct.{distinct}
 use Rattle.rx_graph.proofs.Bounded.{stays_within, few_fields}

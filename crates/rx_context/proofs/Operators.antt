@@ -1,6 +1,6 @@
 -- The interval of a narrow operator.
 use Rattle.std.proofs.Common.{◌≡◌, true, Some, refl, ap, ◌∙◌, arith}
-use Rattle.std.specs.Prelude.{if◌then◌else◌, Bool, Option, None}
+use Rattle.std.specs.Prelude.{if◌then◌else◌, Bool, None}
 use Rattle.std.proofs.lemmas.Int.{ints}
 use Rattle.rx_types.specs.declared.expr.Operator.{Operator}
 use Rattle.rx_types.specs.declared.expr.Operator.TheVariants as op

@@ -1,19 +1,17 @@
 -- A field that is read at its place, and one over it.
 use Rattle.std.proofs.Common.{◌≡◌, ℕ, ◌+◌, ◌*◌, ◌≤◌, Bool, true, false, List, [], ◌∷◌, Option, Some, None, refl, sym, ap, ◌∙◌, subst, inl, inr, arith}
-use Rattle.std.specs.Prelude.{ℤ, pos, if◌then◌else◌, ◌==◌}
+use Rattle.std.specs.Prelude.{pos, if◌then◌else◌, ◌==◌}
 use Rattle.std.specs.List.{AllByRecursion}
 use Rattle.std.proofs.lemmas.Int.{ints}
 use Rattle.std.proofs.lemmas.Bool.Decides.{Decides-eqb}
 use Rattle.rx_model.specs.Order.{number_in}
 use Rattle.rx_types.specs.Domain.{Domain, IsNumberOf}
-use Rattle.rx_types.specs.declared.stuck.Reason.TheVariants.{Condition, Short, Value}
+use Rattle.rx_types.specs.declared.stuck.Reason.TheVariants.{Short, Value}
 use Rattle.rx_types.specs.Environment.{Placed, Environment, place_of, end_of, IsAmong}
 use Rattle.rx_graph.specs.declared.message.Node.{Node}
-use Rattle.rx_graph.specs.declared.message.Node.TheVariants.{At}
 use Rattle.rx_graph.specs.Graph.{Arrow, Graph, type_of}
-use Rattle.rx_graph.specs.Cycles.{IsLink}
 use Rattle.rx_graph.specs.Checks.{size_to}
-use Rattle.rx_graph.specs.Paths.{value_or, first_of, size_of_target, HasNumber, IsTrue, LiesWithin, Places, IsReadBy}
+use Rattle.rx_graph.specs.Paths.{value_or, first_of, HasNumber, LiesWithin, Places, IsReadBy}
 use Rattle.rx_graph.specs.Elaborated.{IsElaborated}
 use Rattle.rx_graph.specs.Fits.{by_buffer}
 use Rattle.rx_graph.specs.Stuck.{IsReason, Tries}

@@ -1,5 +1,5 @@
 -- What is kept of a message: where its links stand, and the types of its fields.
-use Rattle.std.proofs.Common.{◌≡◌, ℕ, zero, suc, ◌+◌, ◌<◌, ◌≤◌, List, [], ◌∷◌, ◌++◌, length, get_or, Option, Some, None, refl, sym, ap, ◌∙◌, subst, inl, inr, arith}
+use Rattle.std.proofs.Common.{◌≡◌, ℕ, zero, suc, ◌+◌, ◌<◌, ◌≤◌, List, [], ◌∷◌, ◌++◌, length, get_or, Option, Some, refl, sym, ap, ◌∙◌, subst, inl, inr, arith}
 use Rattle.std.specs.Prelude.{slice_get}
 use Rattle.std.proofs.lemmas.Bool.{cases_lt}
 use Rattle.std.proofs.lemmas.Option.{slice_get_past}
@@ -10,10 +10,10 @@ use Rattle.rx_graph.specs.declared.message.Link.{Link}
 use Rattle.rx_graph.specs.declared.message.Node.{Node}
 use Rattle.rx_graph.specs.declared.message.Node.TheVariants.{Start, At, Null}
 use Rattle.rx_graph.specs.Elaborated.{IsSource, IsElaborated}
-use Rattle.rx_graph.specs.Graph.{Arrow, Graph, arrow_of, arrows, graph_of, scalar_of, type_of}
+use Rattle.rx_graph.specs.Graph.{Arrow, Graph, arrows, graph_of, scalar_of, type_of}
 use Rattle.rx_context.specs.declared.kept.Span.{Span}
 use Rattle.rx_context.specs.Plain.{IsPlain}
-use Rattle.rx_context.specs.Plan.{Planned, domain_if_any, kind_if_any, kept_type, KeepsTypes, span_or_none, slot_of, IsInSpan, IsSpanOf, AreSpans, StandsFor}
+use Rattle.rx_context.specs.Plan.{Planned, domain_if_any, kind_if_any, KeepsTypes, span_or_none, slot_of, IsInSpan, IsSpanOf, AreSpans, StandsFor}
 use Rattle.rx_context.proofs.Arrows.{same_arrow, arrow_within}
 use Rattle.rx_context.proofs.Grid.{exclusive, grid}
 

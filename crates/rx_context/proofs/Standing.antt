@@ -15,7 +15,7 @@ use Rattle.rx_graph.specs.Graph.{Arrow, Graph, graph_of, type_of, limit_of, scal
 use Rattle.rx_graph.specs.Cycles.{IsLink}
 use Rattle.rx_graph.specs.Paths.{size_of_target}
 use Rattle.rx_graph.specs.Elaborated.{FitsOrder, IsAspect, IsFieldType, IsTarget, IsElaborated}
-use Rattle.rx_context.specs.Plan.{Planned, kept_type, span_at, IsInSpan, StandsFor, IsNarrowIfAny, IsNarrowLink, HasValues}
+use Rattle.rx_context.specs.Plan.{Planned, kept_type, span_at, IsInSpan, StandsFor, IsNarrowIfAny, HasValues}
 use Rattle.rx_model.specs.Order.{number_in}
 use Rattle.rx_context.specs.Reading.{IsReadable, IsRead, IsRefused}
 

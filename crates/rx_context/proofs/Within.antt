@@ -1,5 +1,5 @@
 -- Where the fields of a path lie: within the buffer, and bytes on whole bytes.
-use Rattle.std.proofs.Common.{◌≡◌, ℕ, ◌+◌, ◌-◌, ◌*◌, ◌/◌, ◌%◌, ◌<◌, ◌≤◌, ◌^◌, Bool, true, false, List, [], ◌∷◌, ◌++◌, length, take, drop, Some, None, refl, sym, ap, ◌∙◌, subst, inl, inr, arith, length-drop}
+use Rattle.std.proofs.Common.{◌≡◌, ℕ, ◌+◌, ◌-◌, ◌*◌, ◌/◌, ◌%◌, ◌<◌, ◌≤◌, ◌^◌, Bool, true, false, List, [], ◌∷◌, ◌++◌, length, Some, None, refl, sym, ap, ◌∙◌, subst, arith, length-drop}
 use Rattle.std.specs.Prelude.{ℤ, pos, ◌+ℤ◌, ◌*ℤ◌, ◌≤ℤ◌, nat_abs, slice_range, if◌then◌else◌, ◌==◌}
 use Rattle.std.specs.List.{AllByRecursion}
 use Rattle.std.proofs.lemmas.Int.{ints}
@@ -7,13 +7,12 @@ use Rattle.std.proofs.lemmas.List.{length-take}
 use Rattle.std.proofs.lemmas.Bool.Decides.{Decides-eqb}
 use Rattle.rx_model.specs.Order.{number_in}
 use Rattle.rx_types.specs.Domain.{Domain}
-use Rattle.rx_types.specs.Environment.{Placed, place_of, in_message, IsAmong}
+use Rattle.rx_types.specs.Environment.{Placed, place_of, IsAmong}
 use Rattle.rx_graph.specs.declared.message.Node.{Node}
 use Rattle.rx_graph.specs.declared.message.Node.TheVariants.{Start, At}
 use Rattle.rx_graph.specs.Checks.{IsMultipleOf8, HasGrid, number_of}
 use Rattle.rx_graph.specs.Graph.{Graph, type_of}
-use Rattle.rx_graph.specs.Paths.{Leads, IsPartial, first_of, size_of_target}
-use Rattle.rx_graph.specs.Fits.{Reads, by_buffer}
+use Rattle.rx_graph.specs.Paths.{Leads}
 use Rattle.rx_graph.proofs.Unique.{leads_on}
 use Rattle.rx_context.specs.Plan.{StandsFor}
 use Rattle.rx_context.specs.Contexts.{Reading, IsReading}

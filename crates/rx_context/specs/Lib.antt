@@ -4,3 +4,4 @@ pub mod Plan
 pub mod Reading
 pub mod Slots
 pub mod Steps
+pub mod Worked

@@ -10,6 +10,8 @@ mod plain;
 mod plan;
 mod slots;
 mod step;
+#[cfg(test)]
+mod tests;
 mod verified;
 mod walk;
 

@@ -1,4 +1,4 @@
-use Rattle.std.proofs.Common.{sym, subst}
+use Rattle.std.proofs.Common.{subst}
 use Rattle.rx_graph.specs.Graph.{arrow_of}
 use Rattle.rx_graph.specs.Cycles.{IsLink}
 use Rattle.rx_context.specs.Plan.{planned}

@@ -1,13 +1,10 @@
-use Rattle.std.proofs.Common.{◌≡◌, ℕ, ◌<◌, true, false, List, length, get_or, Some, min, sym, ap, ◌∙◌, subst, inl, inr, arith, rules}
+use Rattle.std.proofs.Common.{◌≡◌, ℕ, ◌<◌, true, false, List, length, get_or, Some, min, sym, ap, ◌∙◌, subst, inl, inr, arith}
 use Rattle.std.specs.Prelude.{slice_get}
 use Rattle.std.proofs.lemmas.Bool.{cases_lt}
-use Rattle.rx_types.specs.Environment.{Environment}
 use Rattle.rx_graph.specs.declared.message.Link.{Link}
-use Rattle.rx_graph.specs.declared.message.Node.{Node}
-use Rattle.rx_graph.specs.Graph.{Arrow, arrow_of, arrows, graph_of}
-use Rattle.rx_graph.specs.Cycles.{IsLink}
+use Rattle.rx_graph.specs.Graph.{Arrow, arrow_of, arrows}
 use Rattle.rx_graph.specs.Paths.{IsTrue}
-use Rattle.rx_context.specs.Plan.{planned, span_at}
+use Rattle.rx_context.specs.Plan.{planned}
 use Rattle.rx_context.proofs.Arrows.{link_at, same_arrow, arrow_within}
 use Rattle.rx_context.proofs.Standing.{in_span, has_values}
 use Rattle.rx_context.proofs.advance.taken_link.Goals.{else-is_same-via-then-is_same+else-truth, else-is_same-via-else-is_same}

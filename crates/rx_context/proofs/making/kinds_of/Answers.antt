@@ -1,7 +1,7 @@
-use Rattle.std.proofs.Common.{◌≡◌, [], ◌∷◌, ◌++◌, length, Some, sym, ap, ◌∙◌, subst, length-append, arith}
+use Rattle.std.proofs.Common.{◌≡◌, [], ◌∷◌, length, Some, sym, ap, ◌∙◌, subst, length-append, arith}
 use Rattle.std.specs.Prelude.{slice_get}
 use Rattle.std.proofs.lemmas.Option.{slice_get-get_or}
-use Rattle.rx_graph.specs.Graph.{domains_of, graph_of, type_of}
+use Rattle.rx_graph.specs.Graph.{domains_of, graph_of}
 use Rattle.rx_context.specs.Plan.{kind_if_any}
 use Rattle.rx_context.proofs.Spans.{kinds_more, kinds_all}
 use Rattle.rx_context.proofs.making.kinds_of.Goals as goal

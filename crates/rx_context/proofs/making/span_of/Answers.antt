@@ -1,4 +1,4 @@
-use Rattle.std.proofs.Common.{◌≡◌, true, false, ◌+◌, length, get_or, sym, ap, ◌∙◌, subst, arith}
+use Rattle.std.proofs.Common.{◌≡◌, true, false, ◌+◌, sym, ap, ◌∙◌, subst, arith}
 use Rattle.rx_graph.specs.Graph.{arrows}
 use Rattle.rx_context.proofs.Spans.{AreIn, skips, widens, are_in_all}
 use Rattle.rx_context.proofs.making.span_of.Goals.{then-is_same, else-is_same}

@@ -1,6 +1,4 @@
-use Rattle.std.proofs.Common.{◌≡◌, true, false, length, refl, Some, get_or, sym, ap, ◌∙◌, subst, arith, List, ℕ, ◌<◌}
-use Rattle.std.specs.Prelude.{slice_get}
-use Rattle.rx_graph.specs.declared.message.Link.{Link}
+use Rattle.std.proofs.Common.{◌≡◌, true, false, length, refl, get_or, sym, ap, ◌∙◌, subst, arith}
 use Rattle.rx_graph.specs.declared.message.Node.{Node}
 use Rattle.rx_graph.specs.Graph.{arrow_of, arrows}
 use Rattle.rx_context.specs.Plain.{HasLinkBefore}

@@ -1,5 +1,5 @@
-use Rattle.std.proofs.Common.{◌≡◌, ◌%◌, ◌+◌, true, false, refl, length, sym, ap, ◌∙◌, arith}
-use Rattle.rx_graph.specs.Graph.{arrows, arrow_of, domains_of, graph_of}
+use Rattle.std.proofs.Common.{◌≡◌, ◌%◌, ◌+◌, true, false, refl, sym, ap, ◌∙◌, arith}
+use Rattle.rx_graph.specs.Graph.{arrow_of, domains_of, graph_of}
 use Rattle.rx_graph.proofs.Ways.{length-arrows}
 use Rattle.rx_context.specs.Plain.{IsOnBytes}
 use Rattle.rx_context.proofs.Chains.{goes_on, ends, not_longer}

@@ -1,7 +1,4 @@
-use Rattle.std.proofs.Common.{◌≡◌, true, false, List, ℕ, ◌<◌, length, get_or, Some, sym, ap, ◌∙◌, subst, arith}
-use Rattle.std.specs.Prelude.{slice_get}
-use Rattle.rx_graph.specs.declared.message.Link.{Link}
-use Rattle.rx_graph.specs.Graph.{Arrow, arrow_of, arrows}
+use Rattle.std.proofs.Common.{◌≡◌, true, false, length, get_or, sym, ap, ◌∙◌, arith}
 use Rattle.rx_context.proofs.Arrows.{link_in, arrow_within, none_more}
 use Rattle.rx_context.proofs.plain.link_from.Goals as goal
 

@@ -1,4 +1,4 @@
-use Rattle.std.proofs.Common.{◌≡◌, ℕ, ◌+◌, get_or, ◌∙◌, arith}
+use Rattle.std.proofs.Common.{ℕ, ◌+◌, get_or, ◌∙◌, arith}
 use Rattle.std.proofs.lemmas.List.{length-set, length-replicate}
 use Rattle.std.proofs.lemmas.Option.{slice_get-get_or}
 use Rattle.rx_types.specs.declared.env.Entry.{Entry}

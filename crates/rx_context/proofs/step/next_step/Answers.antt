@@ -1,4 +1,4 @@
-use Rattle.std.proofs.Common.{◌≡◌, sym, subst, arith}
+use Rattle.std.proofs.Common.{sym, subst, arith}
 use Rattle.rx_graph.specs.Fits.{by_buffer}
 use Rattle.rx_context.specs.Plan.{planned}
 use Rattle.rx_context.specs.Steps.{IsStep}

@@ -1,5 +1,5 @@
-use Rattle.std.proofs.Common.{◌≡◌, [], ◌∷◌, sym, ap, ◌∙◌, subst, length, length-append, arith}
-use Rattle.rx_types.specs.Environment.{placed, AreDistinct}
+use Rattle.std.proofs.Common.{[], ◌∷◌, sym, ap, ◌∙◌, subst, length, length-append, arith}
+use Rattle.rx_types.specs.Environment.{placed}
 use Rattle.rx_graph.specs.declared.message.Node.TheVariants.{At}
 use Rattle.rx_context.specs.Plan.{planned}
 use Rattle.rx_context.proofs.OnPath.{AreOnPath, are_read, known, few, distinct_fields, goes_on, reads_by, stops_by}

@@ -1,4 +1,4 @@
-use Rattle.std.proofs.Common.{◌≡◌, ◌+◌, ◌*◌, ◌/◌, ◌<◌, ◌≤◌, ◌^◌, length, ap, sym, ◌∙◌, subst, arith, rules}
+use Rattle.std.proofs.Common.{◌+◌, ◌*◌, ◌/◌, ◌<◌, ◌≤◌, ◌^◌, length, ap, sym, ◌∙◌, subst, arith, rules}
 use Rattle.std.specs.Prelude.{pos, slice_range}
 use Rattle.rx_context.proofs.Within.{ends_within, part_short, part_size}
 use Rattle.rx_context.proofs.verified.Verified.bytes.Goals as goal
