@@ -26,11 +26,11 @@ pub record Takes (m : Graph) (e : Environment) (at : Node) (f : ℕ) (link : Arr
   pub taken : IsTrue link e
 
 module _ (domains : List Domain) (m : Graph) where
-  -- To: the link leads to the field, which lies within the message at this place. Short: it does not lie there. Null:
-  -- it leads to null. Nothing: no link of the node is taken.
+  -- To: the link leads to the field, which lies within the message at this place. Short: this place does not lie within
+  -- the message. Null: it leads to null. Nothing: no link of the node is taken.
   abbrev pub IsTaken : Environment → Node → Taken → Type 0
   IsTaken e at (taken.To f first size) = (link : Arrow) × Takes m e at f link × (first_of link e ≡ pos first) × (size_to domains m link e f ≡ pos size) × (first + size ≤ e.total * 8)
-  IsTaken e at (taken.Short f) = (link : Arrow) × Takes m e at f link × (LiesWithin e (first_of link e) (size_to domains m link e f) → ⊥)
+  IsTaken e at (taken.Short f first size) = (link : Arrow) × Takes m e at f link × (first_of link e ≡ first) × (size_to domains m link e f ≡ size) × (LiesWithin e first size → ⊥)
   IsTaken e at taken.Null = (i : ℕ) × Ends domains m e.total e.fields at i
   IsTaken e at taken.Nothing = (i : ℕ) (link : Arrow) → IsLink m i link → link.source ≡ at → IsTrue link e → ⊥
 

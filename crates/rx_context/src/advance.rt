@@ -11,6 +11,7 @@ ghost use Rattle.rx_graph.specs.Paths.{IsTrue, first_of, size_of_target, LiesWit
 ghost use Rattle.rx_graph.specs.Stuck.{field_of as field_of_lem};
 ghost use Rattle.rx_context.specs.Plan.{planned, domain_if_any, StandsFor, IsKnown, HasValues};
 ghost use Rattle.rx_context.specs.Steps.{IsTaken};
+ghost use Rattle.rx_context.specs.declared.advance.Taken.TheVariants.{Short};
 
 use crate::kept::{Kept, is_same};
 use rx_graph::{Link, Node};
@@ -26,7 +27,11 @@ pub enum Taken {
         size: u32,
     },
     /// To a field that does not lie within the message.
-    Short(FieldId),
+    Short {
+        field: FieldId,
+        first: i128,
+        size: i128,
+    },
     /// To null.
     Null,
     /// No link is taken.
@@ -46,7 +51,7 @@ pub fn advance(kept: &Kept, at: Node, env: &Env) -> Taken
     };
     match place(kept.scalar(field), link, env) {
         Some((first, size)) => Taken::To { field, first, size },
-        None => Taken::Short(field),
+        None => beyond(field, kept.scalar(field), link, env),
     }
 }
 
@@ -81,6 +86,16 @@ fn place(scalar: Option<&ScalarType>, link: &Link, env: &Env) -> Option<(u32, u3
     } else {
         None
     }
+}
+
+// The link's target does not lie within the message.
+fn beyond(field: FieldId, scalar: Option<&ScalarType>, link: &Link, env: &Env) -> Taken
+    requires { HasValues (arrow_of link.now) env.now }
+    ensures { result ≡ Short field (first_of (arrow_of link.now) env.now) (size_of_target (domain_if_any (option_copied scalar.entry)) (arrow_of link.now) env.now) }
+{
+    let first = first(link, env);
+    let size = size(scalar, link, first, env);
+    Taken::Short { field, first, size }
 }
 
 // Where the link's target begins.

@@ -10,11 +10,13 @@ mod plain;
 mod plan;
 mod slots;
 mod step;
+mod telling;
 #[cfg(test)]
 mod tests;
 mod verified;
 mod walk;
 
+pub use advance::Taken;
 pub use fault::NoMemory;
 pub use plain::is_plain;
 pub use plan::Plan;

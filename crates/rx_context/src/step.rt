@@ -41,7 +41,7 @@ pub fn next_step(kept: &Kept, bytes: &[u8], at: Node, env: &Env) -> Step
             }),
             None => stop(Reason::Value, Some(field)),
         },
-        Taken::Short(field) => stop(Reason::Short, Some(field)),
+        Taken::Short { field, .. } => stop(Reason::Short, Some(field)),
         Taken::Null => {
             if ends(env) {
                 Step::Done

@@ -17,3 +17,9 @@ place-requires c =
     let r = c.requires in
     let h = c.in-Some.ensures.some in
     has_values r.0 r.1 (planned c.args.kept.now) c.args.env.now r.2 r.3 h.0 (arrow_of c.in-Some.link.now) h.1
+
+pub beyond-requires : goal.beyond-requires
+beyond-requires c =
+    let r = c.requires in
+    let h = c.in-Some.ensures.some in
+    has_values r.0 r.1 (planned c.args.kept.now) c.args.env.now r.2 r.3 h.0 (arrow_of c.in-Some.link.now) h.1

@@ -1,5 +1,6 @@
 use Rattle.std.proofs.Common.{sym, subst, arith}
 use Rattle.rx_graph.specs.Fits.{by_buffer}
+use Rattle.rx_graph.specs.Paths.{first_of, LiesWithin}
 use Rattle.rx_context.specs.Plan.{planned}
 use Rattle.rx_context.specs.Steps.{IsStep}
 use Rattle.rx_context.proofs.Standing.{readable, read_as, refused_as}
@@ -36,7 +37,7 @@ pub returns-in-Short : goal.returns-in-Short
 returns-in-Short c =
     λ domains m s.
     let t = c.in-Short.ensures domains m s in
-    subst (λ r. IsStep domains m (by_buffer m.low_order c.args.bytes.now) c.args.env.now c.args.at r) (sym c.stop-in-Short.ensures) (too_short domains m c.args.bytes.now c.args.env.now c.args.at c.in-Short.field t.0 t.1 t.2)
+    subst (λ r. IsStep domains m (by_buffer m.low_order c.args.bytes.now) c.args.env.now c.args.at r) (sym c.stop-in-Short.ensures) (too_short domains m c.args.bytes.now c.args.env.now c.args.at c.in-Short.field t.0 t.1 (subst (λ z. LiesWithin c.args.env.now (first_of t.0 c.args.env.now) z → ⊥) (sym t.3) (subst (λ z. LiesWithin c.args.env.now z c.in-Short.size → ⊥) (sym t.2) t.4)))
 
 pub returns-in-Nothing : goal.returns-in-Nothing
 returns-in-Nothing c =
