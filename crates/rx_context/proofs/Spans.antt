@@ -12,10 +12,8 @@ use Rattle.rx_graph.specs.declared.message.Node.TheVariants.{Start, At, Null}
 use Rattle.rx_graph.specs.Elaborated.{IsSource, IsElaborated}
 use Rattle.rx_graph.specs.Graph.{Arrow, Graph, arrows, graph_of, scalar_of, type_of}
 use Rattle.rx_context.specs.declared.kept.Span.{Span}
-use Rattle.rx_context.specs.Plain.{IsPlain}
-use Rattle.rx_context.specs.Plan.{Planned, domain_if_any, kind_if_any, KeepsTypes, span_or_none, slot_of, IsInSpan, IsSpanOf, AreSpans, StandsFor}
+use Rattle.rx_context.specs.Plan.{Planned, domain_if_any, kind_if_any, KeepsTypes, span_or_none, slot_of, IsInSpan, IsSpanOf, AreSpans, MayBePlanned, StandsFor}
 use Rattle.rx_context.proofs.Arrows.{same_arrow, arrow_within}
-use Rattle.rx_context.proofs.Grid.{exclusive, grid}
 
 -- ---- one element more
 
@@ -133,6 +131,6 @@ kinds_all domains m kinds i count le h f =
 
 -- ---- the plan
 
-pub stands_for : (domains : List Domain) (m : Graph) (p : Planned) → IsElaborated domains m → IsPlain domains m → graph_of p.message ≡ m → KeepsTypes domains m p.kinds → AreSpans m.links p.spans → StandsFor domains m p
-stands_for domains m p el plain graph types spans =
-    record { elaborated = el; exclusive = exclusive domains m plain; grid = grid domains m plain; graph = graph; types = types; spans = spans }
+pub stands_for : (domains : List Domain) (m : Graph) (p : Planned) → MayBePlanned domains m → graph_of p.message ≡ m → KeepsTypes domains m p.kinds → AreSpans m.links p.spans → StandsFor domains m p
+stands_for domains m p may graph types spans =
+    record { elaborated = may.elaborated; exclusive = may.exclusive; grid = may.grid; graph = graph; types = types; spans = spans }

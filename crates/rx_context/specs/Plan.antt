@@ -2,6 +2,7 @@
 --   Planned, planned          what a plan keeps
 --   kept_type p f             the scalar type that it keeps for field f, if that is a scalar
 --   AreSpans links spans      the links of each node stand where the node's span says
+--   MayBePlanned domains m    the message can be decoded along one path, with bytes on whole bytes
 --   StandsFor domains m p     the plan stands for the message
 --   IsPlan p                  there is a message for which it stands
 --   IsKnown p e               and its expressions have values in this environment
@@ -83,6 +84,12 @@ AreSpans links spans = (i : ℕ) (link : Arrow) → slice_get links i ≡ Some l
 
 -- The message is elaborated. No two links of a node are both true on a partial path to it, and bytes lie on whole
 -- bytes. The plan has its graph, the types of its fields and the places of its links.
+-- the message is elaborated, no two links of a node are ever taken together, and bytes lie on whole bytes
+pub record MayBePlanned (domains : List Domain) (m : Graph) : Type 0 where
+  pub elaborated : IsElaborated domains m
+  pub exclusive : Exclusive domains m
+  pub grid : (node : Node) (n : ℕ) → HasGrid domains m node n
+
 pub record StandsFor (domains : List Domain) (m : Graph) (p : Planned) : Type 0 where
   pub elaborated : IsElaborated domains m
   pub exclusive : Exclusive domains m

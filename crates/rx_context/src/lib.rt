@@ -5,6 +5,7 @@ mod advance;
 mod bounding;
 mod fault;
 mod kept;
+mod laws;
 mod making;
 mod plain;
 mod plan;
@@ -18,6 +19,7 @@ mod walk;
 
 pub use advance::Taken;
 pub use fault::NoMemory;
+pub use laws::{plain_messages_may_be_planned, sound_messages_may_be_planned};
 pub use plain::is_plain;
 pub use plan::Plan;
 pub use verified::{Opened, Refused, Verified};

@@ -1,10 +1,8 @@
 // Plans: what is kept of a message to decode by.
 
 ghost use Rattle.std.specs.Prelude.{◌≡◌, IfOk};
-ghost use Rattle.rx_graph.specs.Elaborated.{IsElaborated};
 ghost use Rattle.rx_graph.specs.Graph.{domains_of, graph_of};
-ghost use Rattle.rx_context.specs.Plain.{IsPlain};
-ghost use Rattle.rx_context.specs.Plan.{planned, IsPlan, StandsFor};
+ghost use Rattle.rx_context.specs.Plan.{planned, IsPlan, MayBePlanned, StandsFor};
 
 use crate::fault::NoMemory;
 use crate::kept::Kept;
@@ -36,10 +34,9 @@ impl Model for Plan {
 }
 
 impl Plan {
-    /// The plan of a message that is elaborated with the specification, and plain.
+    /// The plan of a message of the specification, which is decoded along one path.
     pub fn make(alloc: Global, message: &Message, spec: &Spec) -> Result<Plan, NoMemory>
-        requires elaborated { IsElaborated (domains_of spec.now) (graph_of message.now) }
-        requires plain { IsPlain (domains_of spec.now) (graph_of message.now) }
+        requires may { MayBePlanned (domains_of spec.now) (graph_of message.now) }
         ensures { IfOk result (λ plan. StandsFor (domains_of spec.now) (graph_of message.now) plan) }
     {
         let kinds = kinds_of(alloc, message, spec)?;

@@ -1,4 +1,4 @@
-// What a plan tells of its message.
+//! What a plan tells of its message.
 
 ghost use Rattle.std.specs.Prelude.{◌≡◌, List, Some, IsSome, IsTrue, ◌↔◌, option_map, slice_get};
 ghost use Rattle.rx_types.specs.Domain.{Domain, size_of, IsNumberOf};

@@ -6,7 +6,7 @@ ghost use Rattle.rx_types.specs.Names.{IsName};
 ghost use Rattle.rx_graph.specs.Graph.{arrow_of, arrows, domains_of, graph_of};
 ghost use Rattle.rx_context.specs.Worked.{to, headed, headed_domains};
 
-use crate::{NoMemory, Opened, Plan, Verified, is_plain};
+use crate::{NoMemory, Opened, Plan, Verified, is_plain, plain_messages_may_be_planned};
 use rx_graph::{Field, Link, Message, Node, Scalar, Spec};
 use rx_syntax::Place;
 use rx_types::{Expr, FieldId, FieldType, Name, Reason, ScalarType, Stuck};
@@ -120,6 +120,7 @@ fn plan(alloc: Global) -> Result<Plan, NotMade> {
     if !is_plain(&message, &spec) {
         return Err(NotMade);
     }
+    plain_messages_may_be_planned(&spec, &message);
     let plan = Plan::make(alloc, &message, &spec)?;
     Ok(plan)
 }
