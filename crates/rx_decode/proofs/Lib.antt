@@ -1,0 +1,4 @@
+pub mod Bits
+pub mod Collected
+pub mod Contents
+pub mod OneText
