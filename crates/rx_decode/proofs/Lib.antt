@@ -1,4 +1,8 @@
 pub mod Bits
 pub mod Collected
 pub mod Contents
+pub mod Fitting
 pub mod OneText
+pub mod Own
+pub mod Plain
+pub mod Typed
