@@ -61,7 +61,7 @@ module _ (domains : List Domain) (m : Graph) (bytes : List ℕ) (fields : List P
         record {
           ascending = g.ascending;
           there = λ f lt h. (let apart : n ≢ f = λ e. absent (subst (λ k. IsAmong k fields) (sym e) h) in
-            let below : f < n = grind (arith, lt, apart) in
-            g.there f below h);
+              let below : f < n = grind (arith, lt, apart) in
+              g.there f below h);
           only = λ f c e. (let k = g.only f c e in let lt : f < n = k.0 in (omega (arith, lt), k.1));
         }

@@ -71,13 +71,13 @@ module _ (domains : List Domain) (m : Graph) (el : IsElaborated domains m) (byte
   number_at o p first size t f s typed ends long order =
       subst (λ x. content_bits m.low_order x (content_at m.low_order x bytes p) ≡ place_bits first size bytes) (sym typed)
       (subst (λ n. content_bits m.low_order (Some t) (Number n) ≡ place_bits first size bytes) (sym (ap (λ z. by_buffer m.low_order bytes p.field z p.size) f ∙ ap (λ z. by_buffer m.low_order bytes p.field (pos first) z) s))
-        (subst (λ n. content_bits m.low_order (Some t) (Number (by_buffer m.low_order bytes p.field (pos first) (pos n))) ≡ place_bits first n bytes) (sym long) (number_stands m.low_order bytes first (size_of t) (omega (arith, ends, long)) order)))
+      (subst (λ n. content_bits m.low_order (Some t) (Number (by_buffer m.low_order bytes p.field (pos first) (pos n))) ≡ place_bits first n bytes) (sym long) (number_stands m.low_order bytes first (size_of t) (omega (arith, ends, long)) order)))
 
   bytes_at : (o : Option Domain) (p : Placed) (first size : ℕ) → p.first ≡ pos first → p.size ≡ pos size → o ≡ None → first % 8 ≡ 0 → size % 8 ≡ 0 → content_bits m.low_order o (content_at m.low_order o bytes p) ≡ place_bits first size bytes
   bytes_at o p first size f s none h k =
       subst (λ x. content_bits m.low_order x (content_at m.low_order x bytes p) ≡ place_bits first size bytes) (sym none)
       (subst (λ z. content_bits m.low_order None (Bytes (slice_range bytes (nat_abs z / 8) (nat_abs (z +ℤ p.size) / 8))) ≡ place_bits first size bytes) (sym f)
-        (subst (λ z. content_bits m.low_order None (Bytes (slice_range bytes (first / 8) (nat_abs (pos first +ℤ z) / 8))) ≡ place_bits first size bytes) (sym s) (bytes_stand bytes first size h k)))
+      (subst (λ z. content_bits m.low_order None (Bytes (slice_range bytes (first / 8) (nat_abs (pos first +ℤ z) / 8))) ≡ place_bits first size bytes) (sym s) (bytes_stand bytes first size h k)))
 
   bits_if : (o : Option Domain) (p : Placed) (l : Lies domains m (length bytes * 8) p) → o ≡ type_of domains m p.field → content_bits m.low_order o (content_at m.low_order o bytes p) ≡ place_bits l.first l.size bytes
   bits_if None p l is = bytes_at None p l.first l.size l.first_is l.size_is refl (l.grid (sym is)).0 (l.grid (sym is)).1

@@ -5,6 +5,10 @@ mod decoding;
 mod fault;
 mod gathering;
 mod laws;
+#[cfg(test)]
+mod tests;
+#[cfg(test)]
+mod worked;
 
 pub use decoding::{Decoded, decode};
 pub use fault::NoMemory;
