@@ -16,6 +16,7 @@ use Rattle.rx_context.specs.Plain.{IsPlain}
 use Rattle.rx_context.specs.Plan.{Planned, domain_if_any, kind_if_any, KeepsTypes, span_or_none, slot_of, IsInSpan, IsSpanOf, AreSpans, StandsFor}
 use Rattle.rx_context.proofs.Arrows.{same_arrow, arrow_within}
 use Rattle.rx_context.proofs.Grid.{exclusive, grid}
+use Rattle.rx_context.proofs.Overlays.{overlays}
 
 -- ---- one element more
 
@@ -135,4 +136,4 @@ kinds_all domains m kinds i count le h f =
 
 pub stands_for : (domains : List Domain) (m : Graph) (p : Planned) → IsElaborated domains m → IsPlain domains m → graph_of p.message ≡ m → KeepsTypes domains m p.kinds → AreSpans m.links p.spans → StandsFor domains m p
 stands_for domains m p el plain graph types spans =
-    record { elaborated = el; exclusive = exclusive domains m plain; grid = grid domains m plain; graph = graph; types = types; spans = spans }
+    record { elaborated = el; exclusive = exclusive domains m plain; grid = grid domains m plain; overlays = overlays domains m el plain; graph = graph; types = types; spans = spans }

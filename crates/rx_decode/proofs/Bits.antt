@@ -4,7 +4,7 @@ use Rattle.std.specs.Prelude.{slice_range}
 use Rattle.std.specs.List.{AllByRecursion}
 use Rattle.rx_model.specs.Bits.{bits, number, place_bits, reversed_groups, ordered}
 use Rattle.rx_model.specs.Order.{number_in, number_bits}
-use Rattle.rx_model.proofs.BitLemmas.{number-push, length-place_bits, reversed_groups-append, reversed_groups-few, bits-drop}
+use Rattle.rx_model.proofs.BitLemmas.{number-push, length-place_bits, reversed_groups-few, bits-drop}
 use Rattle.rx_graph.specs.Elaborated.{FitsOrder}
 
 abbrev AreBits : List ℕ → Type 0

@@ -1,27 +1,24 @@
 -- Where a buffer has a path, it reads as what stands at the places of the path's fields.
-use Rattle.std.proofs.Common.{◌≡◌, ℕ, ◌+◌, ◌-◌, ◌*◌, ◌/◌, ◌%◌, ◌<◌, ◌≤◌, ◌^◌, Bool, true, false, List, [], ◌∷◌, ◌++◌, length, Option, Some, None, IsSome, refl, sym, ap, ◌∙◌, subst, inl, inr, arith, append_assoc, append-nil, length-drop}
-use Rattle.std.specs.Prelude.{ℤ, pos, ◌+ℤ◌, ◌*ℤ◌, ◌≤ℤ◌, nat_abs, slice_get, slice_range, if◌then◌else◌, ◌==◌}
+use Rattle.std.proofs.Common.{◌≡◌, ℕ, ◌+◌, ◌-◌, ◌*◌, ◌/◌, ◌%◌, ◌<◌, ◌≤◌, ◌^◌, List, [], ◌∷◌, ◌++◌, length, Option, Some, None, IsSome, refl, sym, ap, ◌∙◌, subst, arith, append_assoc, length-drop}
+use Rattle.std.specs.Prelude.{ℤ, pos, ◌+ℤ◌, ◌*ℤ◌, ◌≤ℤ◌, nat_abs, slice_range}
 use Rattle.std.specs.List.{AllByRecursion}
 use Rattle.std.proofs.lemmas.Int.{ints}
 use Rattle.std.proofs.lemmas.List.{length-take}
-use Rattle.std.proofs.lemmas.Bool.Decides.{Decides-eqb}
 use Rattle.rx_model.specs.Bits.{place_bits}
 use Rattle.rx_types.specs.Domain.{Domain, size_of}
-use Rattle.rx_types.specs.Environment.{Placed, place_of, end_of, in_message, IsAmong, AreDistinct}
+use Rattle.rx_types.specs.Environment.{Placed, place_of, end_of, in_message, IsAmong}
 use Rattle.rx_graph.specs.declared.message.Node.{Node}
 use Rattle.rx_graph.specs.declared.message.Node.TheVariants.{Start, At}
-use Rattle.rx_graph.specs.Checks.{IsMultipleOf8, HasGrid, number_of}
+use Rattle.rx_graph.specs.Checks.{IsMultipleOf8, HasGrid, HasOverlay, number_of}
 use Rattle.rx_graph.specs.Elaborated.{IsElaborated, FitsOrder}
-use Rattle.rx_graph.specs.Graph.{Graph, type_of, overlay_of}
+use Rattle.rx_graph.specs.Graph.{Graph, type_of}
 use Rattle.rx_graph.specs.Paths.{value_or, size_of_target, Leads, IsWhole, IsReadBy}
-use Rattle.rx_graph.specs.Fits.{Content, Number, Bytes, Assigned, content_of, content_at, content_bits, by_buffer, IsContent, Agrees, AllAgree, Fits, ReadsAs}
+use Rattle.rx_graph.specs.Fits.{Content, Number, Bytes, Assigned, content_of, content_at, content_bits, by_buffer, IsContent, Agrees, AllAgree, ReadsAs}
 use Rattle.rx_graph.proofs.Distinct.{distinct}
 use Rattle.rx_graph.proofs.Facts.{targets_are_fields, laid_over_overlay}
-use Rattle.rx_graph.proofs.Stops.{all_back}
 use Rattle.rx_graph.proofs.Unique.{leads_on}
 use Rattle.rx_context.proofs.Standing.{ordered_type}
 use Rattle.rx_context.proofs.Within.{field_of_place}
-use Rattle.rx_decode.specs.Decoded.{OverlaysFit}
 use Rattle.rx_decode.specs.Gathered.{there_at, IsGathered}
 use Rattle.rx_decode.proofs.Bits.{number_stands, bytes_stand}
 use Rattle.rx_decode.proofs.Contents.{clash, none_some, some_content}
@@ -110,7 +107,7 @@ module _ (domains : List Domain) (m : Graph) (el : IsElaborated domains m) (byte
 
 -- ---- the valuation
 
-module _ (domains : List Domain) (m : Graph) (el : IsElaborated domains m) (grid : (node : Node) (n : ℕ) → HasGrid domains m node n) (overlays : OverlaysFit domains m) (bytes : List ℕ) (path : List ℕ) (fields : List Placed) (is : IsWhole domains m (length bytes) path fields) (reads : AllByRecursion (IsReadBy domains m (by_buffer m.low_order bytes)) fields) (values : List Assigned) (n : ℕ) (all : length m.fields ≤ n) (g : IsGathered domains m bytes fields n values) where
+module _ (domains : List Domain) (m : Graph) (el : IsElaborated domains m) (grid : (node : Node) (n : ℕ) → HasGrid domains m node n) (overlays : (node : Node) (n : ℕ) → HasOverlay domains m node n) (bytes : List ℕ) (path : List ℕ) (fields : List Placed) (is : IsWhole domains m (length bytes) path fields) (reads : AllByRecursion (IsReadBy domains m (by_buffer m.low_order bytes)) fields) (values : List Assigned) (n : ℕ) (all : length m.fields ≤ n) (g : IsGathered domains m bytes fields n values) where
   abbrev total : ℕ
   total = length bytes
 

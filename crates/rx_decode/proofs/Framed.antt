@@ -1,12 +1,12 @@
 -- The message that the tests make by hand is elaborated.
-use Rattle.std.proofs.Common.{get_or, ◌+◌, ◌≡◌, ℕ, zero, suc, ◌<◌, Bool, true, false, List, [], ◌∷◌, length, Option, Some, None, map, ◌∙◌, refl, sym, ap, subst, inl, inr, lit<, lit≤, arith}
-use Rattle.std.specs.Prelude.{ℤ, pos, ◌*ℤ◌, ◌==◌, if◌then◌else◌, codes, slice_get}
+use Rattle.std.proofs.Common.{get_or, ◌+◌, ◌≡◌, ℕ, zero, suc, ◌<◌, Bool, true, false, List, [], ◌∷◌, length, Some, None, map, refl, ap, subst, inl, inr, lit<, lit≤, arith}
+use Rattle.std.specs.Prelude.{pos, ◌*ℤ◌, ◌==◌, if◌then◌else◌, codes, slice_get}
 use Rattle.std.proofs.lemmas.Int.{ints}
 use Rattle.std.specs.Char.{to_ascii_lowercase}
 use Rattle.rx_types.specs.declared.kind.Kind.TheVariants as kind
 use Rattle.rx_types.specs.declared.scalar.FieldType.TheVariants as holds
 use Rattle.rx_types.specs.Coefficients.{Unknown, NumberOf, FirstOf, LastOf, SizeOf, Bits, IsLow, coefficient_of}
-use Rattle.rx_types.specs.Domain.{Integer, Enumeration, AreLiterals}
+use Rattle.rx_types.specs.Domain.{Integer, AreLiterals}
 use Rattle.rx_types.specs.Names.{IsSameName}
 use Rattle.rx_types.specs.Tree.{Tree, Truth}
 use Rattle.rx_types.proofs.Short.{short_facts}

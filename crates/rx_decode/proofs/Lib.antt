@@ -5,5 +5,4 @@ pub mod Fitting
 pub mod Framed
 pub mod OneText
 pub mod Own
-pub mod Plain
 pub mod Typed

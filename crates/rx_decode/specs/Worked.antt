@@ -2,7 +2,6 @@
 --   type Kind is (Off, On) with Size => 8;  type Len is unsigned 16;
 --   type Frame is message Kind : Kind if Kind = On; Len : Len; Data : Opaque with Size => Len * 8; end message;
 use Rattle.std.specs.Prelude.{ℕ, pos, true, false, List, [], ◌∷◌, Option, Some, None, codes}
-use Rattle.rx_syntax.specs.declared.token.Place.{Place}
 use Rattle.rx_types.specs.declared.expr.Operator.TheVariants as op
 use Rattle.rx_types.specs.declared.scalar.FieldType.{FieldType}
 use Rattle.rx_types.specs.declared.scalar.FieldType.TheVariants as holds

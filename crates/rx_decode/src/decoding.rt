@@ -4,7 +4,7 @@ ghost use Rattle.std.specs.Prelude.{◌<◌, ◌^◌, length, IfOk};
 ghost use Rattle.rx_graph.specs.Graph.{domains_of, graph_of};
 ghost use Rattle.rx_context.specs.Contexts.{ReadsBy};
 ghost use Rattle.rx_context.specs.Plan.{StandsFor};
-ghost use Rattle.rx_decode.specs.Decoded.{IsDecoded, IsJson, OverlaysFit};
+ghost use Rattle.rx_decode.specs.Decoded.{IsDecoded, IsJson};
 
 use crate::fault::NoMemory;
 use crate::gathering::values_of;
@@ -30,7 +30,6 @@ pub fn decode(
     bytes: &[u8],
 ) -> Result<Decoded, NoMemory>
     requires stands { StandsFor (domains_of spec.now) (graph_of message.now) plan.now }
-    requires overlays { OverlaysFit (domains_of spec.now) (graph_of message.now) }
     requires short { length bytes.now < 2 ^ 24 }
     ensures { IfOk result (λ d. IsDecoded (domains_of spec.now) (graph_of message.now) bytes.now d) }
 {
@@ -51,7 +50,6 @@ fn text_of(
     verified: &Verified<'_>,
 ) -> Result<Vec<u8>, NoMemory>
     requires stands { StandsFor (domains_of spec.now) (graph_of message.now) verified.now.plan }
-    requires overlays { OverlaysFit (domains_of spec.now) (graph_of message.now) }
     requires reads { ReadsBy verified.now.plan verified.now.bytes verified.now.fields }
     ensures { IfOk result (λ text. IsJson (domains_of spec.now) (graph_of message.now) verified.now.bytes text.items) }
 {

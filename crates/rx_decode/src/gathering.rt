@@ -7,7 +7,6 @@ ghost use Rattle.rx_graph.specs.Fits.{IsAscending, ReadsAs};
 ghost use Rattle.rx_values.specs.Valuation.{content};
 ghost use Rattle.rx_context.specs.Contexts.{ReadsBy};
 ghost use Rattle.rx_context.specs.Plan.{scalar_in, StandsFor};
-ghost use Rattle.rx_decode.specs.Decoded.{OverlaysFit};
 ghost use Rattle.rx_decode.specs.Gathered.{there_at, IsGathered};
 
 use crate::fault::NoMemory;
@@ -25,7 +24,6 @@ pub fn values_of(
     verified: &Verified<'_>,
 ) -> Result<Valuation, NoMemory>
     requires stands { StandsFor (domains_of spec.now) (graph_of message.now) verified.now.plan }
-    requires overlays { OverlaysFit (domains_of spec.now) (graph_of message.now) }
     requires reads { ReadsBy verified.now.plan verified.now.bytes verified.now.fields }
     ensures ascending { IfOk result (λ values. IsAscending values) }
     ensures reads { IfOk result (λ values. ReadsAs (domains_of spec.now) (graph_of message.now) verified.now.bytes values) }

@@ -12,4 +12,4 @@ mod worked;
 
 pub use decoding::{Decoded, decode};
 pub use fault::NoMemory;
-pub use laws::{one_answer, overlays_of_plain_messages_fit};
+pub use laws::one_answer;

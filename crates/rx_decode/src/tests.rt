@@ -5,7 +5,7 @@ ghost use Rattle.rx_graph.specs.Graph.{domains_of, graph_of};
 ghost use Rattle.rx_decode.specs.Worked.{frame, frame_domains};
 
 use crate::worked::{message, spec};
-use crate::{Decoded, NoMemory, decode, one_answer, overlays_of_plain_messages_fit};
+use crate::{Decoded, NoMemory, decode};
 use rx_context::{Plan, is_plain};
 use rx_graph::{Message, Spec};
 use rx_types::{Reason, Stuck};
@@ -41,7 +41,6 @@ fn answer_of(
     if !is_plain(message, spec) {
         return Err(NotDecoded);
     }
-    overlays_of_plain_messages_fit(spec, message);
     let plan = Plan::make(alloc, message, spec)?;
     let answer = decode(alloc, message, spec, &plan, bytes)?;
     Ok(answer)

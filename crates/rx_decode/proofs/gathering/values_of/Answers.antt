@@ -10,4 +10,4 @@ returns-clause-reads c =
     let v = c.args.verified.now in
     let path = c.requires.reads domains m c.requires.stands in
     let all : length m.fields ≤ c.loop-field.field = search rules in
-    reads_as domains m c.requires.stands.elaborated c.requires.stands.grid c.requires.overlays v.bytes path.0 v.fields path.1 path.2 c.loop-field.values c.loop-field.field all c.loop-field.invariant
+    reads_as domains m c.requires.stands.elaborated c.requires.stands.grid c.requires.stands.overlays v.bytes path.0 v.fields path.1 path.2 c.loop-field.values c.loop-field.field all c.loop-field.invariant
