@@ -6,6 +6,7 @@ pub mod Grid
 pub mod Headed
 pub mod Lookup
 pub mod OnPath
+pub mod Overlays
 pub mod Placing
 pub mod Spans
 pub mod Standing

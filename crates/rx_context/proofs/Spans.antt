@@ -133,4 +133,4 @@ kinds_all domains m kinds i count le h f =
 
 pub stands_for : (domains : List Domain) (m : Graph) (p : Planned) → MayBePlanned domains m → graph_of p.message ≡ m → KeepsTypes domains m p.kinds → AreSpans m.links p.spans → StandsFor domains m p
 stands_for domains m p may graph types spans =
-    record { elaborated = may.elaborated; exclusive = may.exclusive; grid = may.grid; graph = graph; types = types; spans = spans }
+    record { elaborated = may.elaborated; exclusive = may.exclusive; grid = may.grid; overlays = may.overlays; graph = graph; types = types; spans = spans }

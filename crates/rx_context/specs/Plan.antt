@@ -19,7 +19,7 @@ use Rattle.rx_graph.specs.declared.message.Node.TheVariants.{Start, At, Null}
 use Rattle.rx_graph.specs.declared.message.Message.{Message}
 use Rattle.rx_graph.specs.Graph.{Arrow, Graph, graph_of, type_of, limit_of}
 use Rattle.rx_graph.specs.Paths.{Exclusive}
-use Rattle.rx_graph.specs.Checks.{HasGrid}
+use Rattle.rx_graph.specs.Checks.{HasGrid, HasOverlay}
 use Rattle.rx_graph.specs.Elaborated.{IsElaborated}
 use Rattle.rx_context.specs.declared.kept.Span.{Span}
 use Rattle.rx_context.specs.declared.kept.Kept.{Kept}
@@ -82,18 +82,21 @@ AreSpans links spans = (i : ℕ) (link : Arrow) → slice_get links i ≡ Some l
 
 -- ---- the messages for which a plan stands
 
--- The message is elaborated. No two links of a node are both true on a partial path to it, and bytes lie on whole
--- bytes. The plan has its graph, the types of its fields and the places of its links.
--- the message is elaborated, no two links of a node are ever taken together, and bytes lie on whole bytes
+-- The message is elaborated. No two links of a node are both true on a partial path to it, bytes lie on whole bytes,
+-- and an overlay is as long as the field that it lies over.
 pub record MayBePlanned (domains : List Domain) (m : Graph) : Type 0 where
   pub elaborated : IsElaborated domains m
   pub exclusive : Exclusive domains m
   pub grid : (node : Node) (n : ℕ) → HasGrid domains m node n
+  pub overlays : (node : Node) (n : ℕ) → HasOverlay domains m node n
 
+-- So it is with the message for which a plan stands, and the plan has the message's graph, the types of its fields and the
+-- places of its links.
 pub record StandsFor (domains : List Domain) (m : Graph) (p : Planned) : Type 0 where
   pub elaborated : IsElaborated domains m
   pub exclusive : Exclusive domains m
   pub grid : (node : Node) (n : ℕ) → HasGrid domains m node n
+  pub overlays : (node : Node) (n : ℕ) → HasOverlay domains m node n
   pub graph : graph_of p.message ≡ m
   pub types : (f : ℕ) → kept_type p f ≡ type_of domains m f
   pub spans : AreSpans m.links p.spans

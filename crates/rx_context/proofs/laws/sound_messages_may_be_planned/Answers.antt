@@ -6,4 +6,4 @@ pub returns : goal.returns
 returns c =
     let domains = domains_of c.args.spec.now in
     let m = graph_of c.args.message.now in
-    record { elaborated = c.requires.elaborated; exclusive = exclusive_from_checks domains m c.requires.holds; grid = c.requires.holds.grid }
+    record { elaborated = c.requires.elaborated; exclusive = exclusive_from_checks domains m c.requires.holds; grid = c.requires.holds.grid; overlays = c.requires.holds.overlay }
