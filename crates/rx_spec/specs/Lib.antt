@@ -1,0 +1,6 @@
+pub mod Arrows
+pub mod Elaboration
+pub mod Laws
+pub mod Messages
+pub mod Shape
+pub mod Sizes
