@@ -18,7 +18,7 @@ use Rattle.rx_types.specs.Names.{IsSameName}
 use Rattle.rx_graph.specs.Graph.{NamedDomain, kind_in}
 use Rattle.rx_judge.specs.Meaning.{Meaning, ◌>>=◌, all_stand_from}
 use Rattle.rx_judge.specs.Scalar.{spelled, definition}
-use Rattle.rx_judge.specs.Table.{Entry}
+use Rattle.rx_judge.specs.Table.{Entry, added}
 use Rattle.rx_judge.specs.declared.names.KnownLiteral.{KnownLiteral}
 use Rattle.rx_judge.proofs.Meanings.{bind_ok, ok_same, err_differs}
 use Rattle.rx_elab.specs.Stand.{Known, fresh, definition_stands, kind_stands, declaration_stands, package_stands, header_stands, body_stands, built_in, is_named}
@@ -44,7 +44,7 @@ pub record IsTypeOf (domains : List Domain) (s : KnownScalar) : Type 0 where
 
 abbrev pub IsKnown : List Domain → KnownType → Type 0
 IsKnown domains (known_type.Scalar s) = IsTypeOf domains s
-IsKnown domains other = Unit {0}
+IsKnown domains k = Unit {0}
 
 abbrev pub domains_of : List NamedDomain → List Domain
 domains_of xs = map (λ x. x.domain) xs
@@ -84,7 +84,9 @@ still xs ys known_type.Other h = tt
 
 literals_low : (table : List (Entry KnownLiteral)) (p : List ℕ) (id : ℕ) (ls : List Literal) → AllByRecursion (λ e. HasLow e.thing) table → AllByRecursion (λ l. l.number < 2 ^ 64) ls → AllByRecursion (λ e. HasLow e.thing) (with_literals table p id ls)
 literals_low table p id [] h k = h
-literals_low table p id (l ∷ ls) h k = literals_low _ p id ls (all_added HasLow table p l.name (record { kind = id; number = l.number }) h k.0) k.1
+literals_low table p id (l ∷ ls) h k =
+    let known : KnownLiteral = record { kind = id; number = l.number } in
+    literals_low (added table p l.name known) p id ls (all_added HasLow table p l.name known h k.0) k.1
 
 domain_low : (table : List (Entry KnownLiteral)) (p : List ℕ) (id : ℕ) (d : Domain) → AllByRecursion (λ e. HasLow e.thing) table → IsProper d → AllByRecursion (λ e. HasLow e.thing) (with_literals_of table p id d)
 domain_low table p id (Integer first last size) h k = h
@@ -166,15 +168,16 @@ no_name : IsSameName (codes "False") (codes "True") → ⊥
 no_name e = let n = ap length e in absurd (omega (arith, n))
 
 boolean_proper : IsProper boolean
-boolean_proper = (omega arith, omega arith, record { some = omega arith; below = (omega arith, omega arith, tt); differ = ((record { names = no_name; numbers = λ e. absurd (omega arith) }, tt), tt, tt) })
+boolean_proper = (omega arith, omega arith, record { some = omega arith; below = (omega arith, (omega arith, tt)); differ = ((record { names = no_name; numbers = λ e. absurd (omega arith) }, tt), (tt, tt)) })
 
 lists_built_in : Lists built_in_types
 lists_built_in =
+    let truth : KnownType = known_type.Scalar (record { id = 0; kind = kind.Truth; greatest = 1; size = 1 }) in
     let known : IsTypeOf (domains_of built_in_types.scalars) (record { id = 0; kind = kind.Truth; greatest = 1; size = 1 }) =
       record { domain = boolean; is = refl; kind = refl; greatest = refl; size = refl; proper = boolean_proper } in
     record {
       first = refl;
-      types = all_added (IsKnown (domains_of built_in_types.scalars)) _ [] (codes "Opaque") known_type.Opaque (all_added (IsKnown (domains_of built_in_types.scalars)) [] [] (codes "Boolean") (known_type.Scalar (record { id = 0; kind = kind.Truth; greatest = 1; size = 1 })) tt known) tt;
+      types = all_added (IsKnown (domains_of built_in_types.scalars)) (added [] [] (codes "Boolean") truth) [] (codes "Opaque") known_type.Opaque (all_added (IsKnown (domains_of built_in_types.scalars)) [] [] (codes "Boolean") truth tt known) tt;
       literals = tt;
     }
 
