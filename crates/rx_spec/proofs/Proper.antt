@@ -20,6 +20,7 @@ use Rattle.rx_judge.proofs.Measured.{measured}
 use Rattle.rx_judge.proofs.Meanings.{bind_ok, ok_same, if_ok, err_differs}
 use Rattle.rx_elab.specs.Stand.{Known, literal_fresh, enumeration_stands, enum_aspect_stands, definition_stands}
 use Rattle.rx_elab.specs.Through.{through}
+use Rattle.rx_spec.proofs.Steps.{taken}
 use Rattle.rx_spec.proofs.Apart.{Fresh, none_fresh, more_fresh, is_fresh, pairs_named}
 
 -- ---- names of literals
@@ -68,10 +69,6 @@ record IsOf (ls : List LiteralTree) (d : Domain) : Type 0 where
   is : Enumeration literals size always ≡ d
   names : tree_names ls ≡ literal_names literals
 
-taken : {A : Type 0} (b : Bool) (m : Meaning A) (y : A) (r : Refusal) → (if b then m else Err r) ≡ Ok y → m ≡ Ok y
-taken true m y r h = h
-taken false m y r h = absurd (err_differs r y h)
-
 is_of : (name : Named) (ls : List LiteralTree) (xs : List EnumAspect) (d : Domain) → enumeration name ls xs ≡ Ok d → IsOf ls d
 is_of name ls xs d h =
     let r : Refusal = record { number = 20; place = name.place; name = name.word } in
@@ -80,9 +77,9 @@ is_of name ls xs d h =
     let p = bind_ok (numbers_of name.word ls) (λ zs. size_of_aspects name.word xs >>= (λ sizes. given name (first_some sizes) >>= (λ n. last zs n))) d h in
     let q = bind_ok (size_of_aspects name.word xs) (λ sizes. given name (first_some sizes) >>= (λ n. last p.0 n)) d p.2 in
     let t = bind_ok (given name (first_some q.0)) (λ n. last p.0 n) d q.2 in
-    let i = taken (are_literals t.0 p.0) (made p.0 t.0) d r t.2 in
+    let i = (taken (are_literals t.0 p.0) (made p.0 t.0) d r t.2).1 in
     let m = bind_ok (each_from (literal_at p.0) 0 ls) (λ literals. Ok (Enumeration literals (nat_abs t.0) (always_valid xs))) d i in
-    record { literals = m.0; size = nat_abs t.0; always = always_valid xs; is = ok_same _ d m.2; names = names_along p.0 0 ls m.0 m.1 }
+    record { literals = m.0; size = nat_abs t.0; always = always_valid xs; is = ok_same (Enumeration m.0 (nat_abs t.0) (always_valid xs)) d m.2; names = names_along p.0 0 ls m.0 m.1 }
 
 proper_enumeration : (known : Known) (ls : List LiteralTree) (d : Domain) → IsOf ls d → IsMeasured d → Fresh known (tree_names ls) → IsProper d
 proper_enumeration known ls d e m f =

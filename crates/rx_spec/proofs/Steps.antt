@@ -6,7 +6,7 @@ use Rattle.std.specs.Option.{option_map}
 use Rattle.std.proofs.lemmas.Option.{none-some, same_Some}
 use Rattle.rx_judge.specs.Meaning.{◌>>=◌, each_from, all_stand_from}
 use Rattle.rx_judge.specs.Table.{Entry, entry, is_entry, found, has, added}
-use Rattle.rx_judge.proofs.Meanings.{bind_ok, ok_same}
+use Rattle.rx_judge.proofs.Meanings.{bind_ok, ok_same, err_differs}
 
 -- ---- items of lists
 
@@ -38,6 +38,10 @@ all_at P (z ∷ xs) zero x h e = subst (λ y. P y) (same_Some z x e) h.0
 all_at P (z ∷ xs) (suc k) x h e = all_at P xs k x h.1 e
 
 -- ---- items that mean something
+
+pub taken : {A R : Type 0} (b : Bool) (m : Result A R) (y : A) (r : R) → (if b then m else Err r) ≡ Ok y → (b ≡ true) × (m ≡ Ok y)
+taken true m y r h = (refl, h)
+taken false m y r h = absurd (err_differs r y h)
 
 pub each_length : {A B R : Type 0} (f : ℕ → A → Result B R) (n : ℕ) (xs : List A) (ys : List B) → each_from f n xs ≡ Ok ys → length ys ≡ length xs
 each_length f n [] ys h = ap length (sym (ok_same [] ys h))
