@@ -1,5 +1,13 @@
 pub mod Apart
 pub mod Domains
+pub mod Expressions
+pub mod Items
+pub mod Nothing
+pub mod Parting
+pub mod Pathing
+pub mod Placing
 pub mod Proper
 pub mod Standing
 pub mod Steps
+pub mod Targets
+pub mod Ways
