@@ -42,11 +42,12 @@ use Rattle.rx_spec.specs.Messages.{type_held, field_meant, scope_in}
 use Rattle.rx_spec.specs.Shape.{message_has_few}
 use Rattle.rx_spec.specs.Sizes.{held_sized, field_sized, is_sized}
 use Rattle.rx_spec.proofs.Expressions.{IsJudged, message_judged, field_judged, condition_good, size_good, node_good, clause_good}
-use Rattle.rx_spec.proofs.Items.{source_of, made_of, stands_at, mapped, there, all_at}
+use Rattle.rx_spec.proofs.Items.{source_of, mapped}
 use Rattle.rx_spec.proofs.Parting.{IsMade}
 use Rattle.rx_spec.proofs.Pathing.{at_most, few_paths}
 use Rattle.rx_spec.proofs.Placing.{AreApart, scalar_named, own_place, parts_without, sized_or_ends}
 use Rattle.rx_spec.proofs.Standing.{FieldsStand, LinksStand}
+use Rattle.rx_spec.proofs.Steps.{get_within, all_at, each_at, stands_at}
 use Rattle.rx_spec.proofs.Ways.{IsBegin, IsEnd, Says, is_way, start_has, field_has}
 
 -- ---- fields with names of their own
@@ -205,10 +206,10 @@ module _ (domains : List Domain) (t : Types) (h : HeaderTree) (name : Named) (m 
   module _ (names : EachPair (λ x y. IsSameName x.name y.name → ⊥) g.fields) where
     apart : AreApart m.fields.items
     apart i j x y p q same =
-        let u = made_of (field_meant a.held) 0 m.fields.items g.fields i x a.fields p in
-        let v = made_of (field_meant a.held) 0 m.fields.items g.fields j y a.fields q in
-        let one = field_name a.held (0 + i) x u.0 u.2 in
-        let other = field_name a.held (0 + j) y v.0 v.2 in
+        let u = each_at (field_meant a.held) 0 m.fields.items g.fields i i x a.fields p (omega arith) in
+        let v = each_at (field_meant a.held) 0 m.fields.items g.fields j j y a.fields q (omega arith) in
+        let one = field_name a.held i x u.0 u.2 in
+        let other = field_name a.held j y v.0 v.2 in
         apart_in g.fields i j u.0 v.0 names u.1 v.1 (ap lowered (sym one) ∙ same ∙ ap lowered other)
 
     scalar_without : (k : ℕ) (w : Way) (f : ℕ) (s : KnownScalar) → slice_get a.ways k ≡ Some w → w.target ≡ stop.At f → slice_get a.held f ≡ Some (holds.Scalar s) → (arrow w).size ≡ None
@@ -221,12 +222,10 @@ module _ (domains : List Domain) (t : Types) (h : HeaderTree) (name : Named) (m 
 
     opaque_sized : (f : ℕ) → f < length m.fields.items → slice_get a.held f ≡ Some holds.Opaque → is_sized g.links f ≡ true
     opaque_sized f l holds =
-        let x = there m.fields.items f l in
-        let s = stands_at (field_sized m.low_order a.held g.links) 0 m.fields.items tt f x.0 a.sized x.1 in
-        let place : 0 + f ≡ f = omega arith in
-        let here = subst (λ (n : ℕ). field_sized m.low_order a.held g.links n x.0 ≡ Ok s.0) place s.1 in
-        let it = subst (λ (o : Option Held). held_sized m.low_order g.links x.0.name f o ≡ Ok s.0) holds here in
-        (if_ok (is_sized g.links f) tt s.0 _ it).0
+        let x = get_within m.fields.items f l in
+        let s = stands_at (field_sized m.low_order a.held g.links) 0 m.fields.items tt f f x.0 a.sized x.1 (omega arith) in
+        let it = subst (λ (o : Option Held). held_sized m.low_order g.links x.0.name f o ≡ Ok tt) holds s in
+        (if_ok (is_sized g.links f) tt tt _ it).0
 
     sized_by : (k : ℕ) (w : Way) (f : ℕ) (o : Option Domain) (x : Held) → slice_get a.ways k ≡ Some w → node_of w.target ≡ node.At f → f < length m.fields.items → slice_get a.held f ≡ Some x → type_of domains g f ≡ o → IsSized g o (arrow w) f
     sized_by k w f (Some d) (holds.Scalar s) e target l held is = scalar_without k w f s e (stop_at_node w.target f target) held
@@ -237,7 +236,7 @@ module _ (domains : List Domain) (t : Types) (h : HeaderTree) (name : Named) (m 
     placing : HasNoFirst g → (k : ℕ) (w : Way) → slice_get a.ways k ≡ Some w → (f : ℕ) → node_of w.target ≡ node.At f → IsPlacing domains g (arrow w) f
     placing plain k w e f target =
         let l : f < length m.fields.items = subst (λ (s : Stop). IsStop (length m.fields.items) s) (stop_at_node w.target f target) (within.target k w e) in
-        let x = there a.held f (omega (arith, l, stand.held_count)) in
+        let x = get_within a.held f (omega (arith, l, stand.held_count)) in
         record {
           over = ap laid_over (plain k (arrow w) (is_link k w e)) ∙ sym (stand.overlay f);
           size = sized_by k w f (type_of domains g f) x.0 e target l x.1 refl;

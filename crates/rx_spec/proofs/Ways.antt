@@ -16,7 +16,8 @@ use Rattle.rx_links.specs.declared.links.Way.{Way}
 use Rattle.rx_links.specs.Positions.{positions}
 use Rattle.rx_links.specs.Links.{gathered_from, stop_at, field_at, target_of, then_way, node_ways, field_ways, links_by, links_of}
 use Rattle.rx_links.specs.Cycle.{clauses_in, clauses_of}
-use Rattle.rx_spec.proofs.Items.{source_of, all_at, all_from, all_append}
+use Rattle.rx_spec.proofs.Items.{source_of, all_from, all_append}
+use Rattle.rx_spec.proofs.Steps.{all_at}
 
 -- the start or a field
 abbrev pub IsBegin : Stop → Type 0
