@@ -1,7 +1,16 @@
 pub mod Apart
 pub mod Domains
+pub mod Elaborating
+pub mod Expressions
 pub mod FieldNames
 pub mod Fields
+pub mod Items
+pub mod Nothing
+pub mod Parting
+pub mod Pathing
+pub mod Placing
 pub mod Proper
 pub mod Standing
 pub mod Steps
+pub mod Targets
+pub mod Ways
