@@ -1,10 +1,10 @@
 -- The scalar types that are known after the packages.
 --   IsTypeOf domains s     what is known of a scalar type is true of one of these
 --   Lists t                the names of types and literals stand for what the list of scalar types has
-use Rattle.std.proofs.Common.{◌≡◌, ◌∙◌, ap, sym, refl, subst, ℕ, zero, suc, ◌+◌, ◌^◌, ◌<◌, List, [], ◌∷◌, ◌++◌, map, length, Option, Some, None, Result, Ok, Err, arith}
+use Rattle.std.proofs.Common.{◌≡◌, ◌∙◌, ap, refl, subst, ℕ, zero, suc, ◌+◌, ◌^◌, ◌<◌, List, [], ◌∷◌, ◌++◌, map, length, Option, Some, None, Ok, Err, arith}
 use Rattle.std.specs.Prelude.{codes, slice_get}
 use Rattle.std.specs.List.{AllByRecursion}
-use Rattle.std.proofs.lemmas.Option.{none-some, same_Some}
+use Rattle.std.proofs.lemmas.Option.{none-some}
 use Rattle.rx_syntax.specs.declared.tree.Named.{Named}
 use Rattle.rx_syntax.specs.declared.tree.DefTree.{DefTree}
 use Rattle.rx_syntax.specs.declared.tree.DeclTree.{DeclTree}
@@ -29,7 +29,6 @@ use Rattle.rx_elab.specs.declared.types.KnownScalar.{KnownScalar}
 use Rattle.rx_elab.specs.declared.types.KnownType.{KnownType}
 use Rattle.rx_elab.specs.declared.types.KnownType.TheVariants as known_type
 use Rattle.rx_spec.specs.Elaboration.{in_package, through_from, package_stands_in, package_types_in}
-use Rattle.rx_spec.specs.declared.fault.Told.{Told}
 use Rattle.rx_spec.proofs.Steps.{all_of, all_added}
 use Rattle.rx_spec.proofs.Proper.{proper, below_64}
 
@@ -98,7 +97,7 @@ lists_scalar p t w d h k =
     let new : NamedDomain = record { «package» = p; name = w; domain = d } in
     let all = t.scalars ++ new ∷ [] in
     let known : IsTypeOf (domains_of all) (known_scalar id d) =
-      record { domain = d; is = domain_last t.scalars new; kind = kind_later id d (is_later t.scalars boolean h.first); greatest = refl; size = refl; proper = k } in
+    record { domain = d; is = domain_last t.scalars new; kind = kind_later id d (is_later t.scalars boolean h.first); greatest = refl; size = refl; proper = k } in
     let before = all_of (λ (e : Entry KnownType). IsKnown (domains_of t.scalars) e.thing) (λ e. IsKnown (domains_of all) e.thing) t.types (λ e b. still t.scalars (new ∷ []) e.thing b) h.types in
     record {
       first = domain_before t.scalars (new ∷ []) 0 boolean h.first;
@@ -174,7 +173,7 @@ lists_built_in : Lists built_in_types
 lists_built_in =
     let truth : KnownType = known_type.Scalar (record { id = 0; kind = kind.Truth; greatest = 1; size = 1 }) in
     let known : IsTypeOf (domains_of built_in_types.scalars) (record { id = 0; kind = kind.Truth; greatest = 1; size = 1 }) =
-      record { domain = boolean; is = refl; kind = refl; greatest = refl; size = refl; proper = boolean_proper } in
+    record { domain = boolean; is = refl; kind = refl; greatest = refl; size = refl; proper = boolean_proper } in
     record {
       first = refl;
       types = all_added (IsKnown (domains_of built_in_types.scalars)) (added [] [] (codes "Boolean") truth) [] (codes "Opaque") known_type.Opaque (all_added (IsKnown (domains_of built_in_types.scalars)) [] [] (codes "Boolean") truth tt known) tt;

@@ -1,8 +1,8 @@
 -- What comes out of elaboration is elaborated.
 --   message_elaborated, nothing_elaborated    a message, and a null message
 --   elaboration_is_sound                      all messages of a specification
-use Rattle.std.proofs.Common.{◌≡◌, ◌∙◌, ap, sym, refl, subst, ℕ, ◌+◌, Bool, false, List, [], ◌∷◌, ◌++◌, Some, Result, Ok}
-use Rattle.std.specs.Prelude.{slice_get}
+use Rattle.std.proofs.Common.{◌≡◌, ◌∙◌, ap, subst, ℕ, ◌+◌, Bool, false, List, [], ◌∷◌, ◌++◌, Some, Result, Ok, Err}
+use Rattle.std.specs.Prelude.{slice_get, IfOk}
 use Rattle.std.specs.List.{AllByRecursion}
 use Rattle.std.proofs.lemmas.Option.{none-some}
 use Rattle.rx_syntax.specs.declared.tree.Named.{Named}
@@ -18,7 +18,8 @@ use Rattle.rx_types.specs.Domain.{Domain, EachPair}
 use Rattle.rx_types.specs.Names.{IsSameName}
 use Rattle.rx_graph.specs.declared.message.Field.{Field}
 use Rattle.rx_graph.specs.Elaborated.{IsElaborated, IsElaboratedField}
-use Rattle.rx_graph.specs.Graph.{Graph, Specified}
+use Rattle.rx_graph.specs.Graph.{Graph, Specified, spec_of}
+use Rattle.rx_graph.specs.declared.spec.Spec.{Spec}
 use Rattle.rx_judge.specs.Meaning.{Meaning, ◌>>=◌, all_stand_from}
 use Rattle.rx_judge.specs.Scalar.{spelled}
 use Rattle.rx_judge.proofs.Meanings.{bind_ok, ok_same}
@@ -27,15 +28,15 @@ use Rattle.rx_elab.specs.Through.{through}
 use Rattle.rx_elab.specs.Types.{Types, built_in_types}
 use Rattle.rx_elab.specs.declared.stand.Declared.{Declared}
 use Rattle.rx_elab.specs.declared.stand.Seen.{Seen}
-use Rattle.rx_spec.specs.Elaboration.{in_package, through_from, package_stands_in, package_types_in, package_messages_in, elaborated}
+use Rattle.rx_spec.specs.Elaboration.{elaborated, through_from, package_stands_in, package_types_in, package_messages_in}
 use Rattle.rx_spec.specs.Laws.{HasNoFirst, IsSoundSpec, ElaborationIsSound}
 use Rattle.rx_spec.specs.Messages.{message_of, Body, graph_named, null_body, with_message, definition_meant, kind_meant, declaration_meant, package_messages}
-use Rattle.rx_spec.specs.declared.fault.Told.{Told}
+use Rattle.rx_spec.specs.declared.fault.SpecFault.{SpecFault}
 use Rattle.rx_spec.proofs.Domains.{domains_of, Lists, types_list, declarations_stand, in_package_ok}
 use Rattle.rx_spec.proofs.FieldNames.{field_names_apart}
 use Rattle.rx_spec.proofs.Fields.{fields_stand, fields_elaborated}
 use Rattle.rx_spec.proofs.Nothing.{null_links}
-use Rattle.rx_spec.proofs.Parting.{IsMade, made}
+use Rattle.rx_spec.proofs.Parting.{made}
 use Rattle.rx_spec.proofs.Standing.{LinksStand}
 use Rattle.rx_spec.proofs.Steps.{all_push}
 use Rattle.rx_spec.proofs.Targets.{links_stand}
@@ -137,3 +138,8 @@ elaboration_is_sound asked ps s e =
     let good = packages_good t.0 known asked 0 [] gs.0 ps u.0 tt gs.1 u.1 in
     let have : IsSoundSpec (record { scalars = t.0.scalars; messages = gs.0; refinements = [] }) = record { boolean = known.first; messages = good } in
     subst (λ (x : Specified). IsSoundSpec x) (ok_same (record { scalars = t.0.scalars; messages = gs.0; refinements = [] }) s gs.2) have
+
+-- the same of what the code answers
+pub sound_if : (asked : List (List ℕ)) (ps : List PackageTree) (r : Result Spec SpecFault) → IfOk r (λ s. elaborated asked ps ≡ Ok (spec_of s)) → IfOk r (λ s. IsSoundSpec (spec_of s))
+sound_if asked ps (Ok s) h = elaboration_is_sound asked ps (spec_of s) h
+sound_if asked ps (Err e) h = tt

@@ -1,6 +1,6 @@
 -- The names of a message's fields are different, since each was new where it stood.
 --   field_names_apart     so are those of the fields of the message
-use Rattle.std.proofs.Common.{◌≡◌, ◌∙◌, ap, sym, refl, subst, ℕ, ◌+◌, List, [], ◌∷◌, map, Option, Some, None, Ok}
+use Rattle.std.proofs.Common.{◌≡◌, ◌∙◌, ap, sym, subst, ℕ, ◌+◌, List, [], ◌∷◌, map, Some, None, Ok}
 use Rattle.std.specs.Prelude.{slice_get}
 use Rattle.rx_syntax.specs.declared.tree.ThenTree.{ThenTree}
 use Rattle.rx_syntax.specs.declared.tree.FieldTree.{FieldTree}
@@ -11,7 +11,7 @@ use Rattle.rx_graph.specs.declared.message.Field.{Field}
 use Rattle.rx_judge.specs.Meaning.{◌>>=◌, each_from}
 use Rattle.rx_judge.specs.Scalar.{spelled}
 use Rattle.rx_judge.proofs.Meanings.{bind_ok, ok_same}
-use Rattle.rx_elab.specs.Stand.{Known, fresh, knowing, aspects_stand, claimed, with_aspects, then_stands, field_stands, no_fields, message_stands}
+use Rattle.rx_elab.specs.Stand.{Known, fresh, aspects_stand, claimed, with_aspects, then_stands, field_stands, no_fields, message_stands}
 use Rattle.rx_elab.specs.Through.{through}
 use Rattle.rx_elab.specs.declared.fields.Held.{Held}
 use Rattle.rx_elab.specs.declared.stand.Seen.{Seen}

@@ -3,33 +3,31 @@
 --   IsFieldAt              field i of the message is that of the text
 --   fields_stand           the names of the fields fit the message
 --   fields_elaborated      the fields are elaborated
-use Rattle.std.proofs.Common.{◌≡◌, ◌∙◌, ap, sym, refl, subst, ℕ, zero, suc, ◌+◌, ◌%◌, ◌^◌, ◌<◌, ◌≤◌, ◌⊎◌, inl, inr, Bool, true, false, not, ◌||◌, List, [], ◌∷◌, map, length, Option, Some, None, Result, Ok, Err, arith}
-use Rattle.std.specs.Prelude.{◌==◌, nat_lt, slice_get, if◌then◌else◌}
+use Rattle.std.proofs.Common.{◌≡◌, ◌∙◌, ap, sym, refl, subst, ℕ, suc, ◌+◌, ◌%◌, ◌^◌, ◌<◌, ◌⊎◌, inl, inr, Bool, true, false, ◌||◌, List, [], ◌∷◌, length, Option, Some, None, Ok, arith}
+use Rattle.std.specs.Prelude.{◌==◌, nat_lt, slice_get}
 use Rattle.std.specs.List.{AllByRecursion}
 use Rattle.std.specs.Option.{option_or}
 use Rattle.std.proofs.lemmas.Bool.{ltb-true}
 use Rattle.std.proofs.lemmas.Bool.Decides.{Decides-eqb}
 use Rattle.std.proofs.lemmas.Option.{none-some, same_Some, slice_get_within}
 use Rattle.rx_syntax.specs.declared.tree.Named.{Named}
-use Rattle.rx_syntax.specs.declared.tree.NameTree.{NameTree}
 use Rattle.rx_syntax.specs.declared.tree.FieldTree.{FieldTree}
 use Rattle.rx_syntax.specs.declared.tree.HeaderTree.{HeaderTree}
 use Rattle.rx_syntax.specs.declared.tree.MessageTree.{MessageTree}
 use Rattle.rx_types.specs.declared.kind.Kind.{Kind}
 use Rattle.rx_types.specs.declared.scalar.FieldType.{FieldType}
 use Rattle.rx_types.specs.declared.scalar.FieldType.TheVariants as field_type
-use Rattle.rx_types.specs.Domain.{Domain, size_of}
+use Rattle.rx_types.specs.Domain.{Domain}
 use Rattle.rx_graph.specs.declared.message.Field.{Field}
 use Rattle.rx_graph.specs.Elaborated.{FitsOrder, IsFieldType, IsElaboratedField}
 use Rattle.rx_graph.specs.Graph.{Arrow, Graph, scalar_of, type_of, overlay_of, kind_in, kind_of_field, kind_of, limit_of, greatest_if_any}
-use Rattle.rx_judge.specs.Meaning.{Meaning, ◌>>=◌, each_from}
+use Rattle.rx_judge.specs.Meaning.{each_from}
 use Rattle.rx_judge.specs.Names.{known}
 use Rattle.rx_judge.specs.Scalar.{spelled}
-use Rattle.rx_judge.specs.Sound.{IsListed, FitScope}
+use Rattle.rx_judge.specs.Sound.{IsListed}
 use Rattle.rx_judge.specs.Table.{Entry, found, added}
 use Rattle.rx_judge.specs.declared.fault.Refusal.{Refusal}
 use Rattle.rx_judge.specs.declared.names.KnownField.{KnownField}
-use Rattle.rx_judge.specs.declared.names.KnownLiteral.{KnownLiteral}
 use Rattle.rx_judge.proofs.Meanings.{bind_ok, ok_same, if_ok, err_differs}
 use Rattle.rx_elab.specs.Fields.{held_as, field_held}
 use Rattle.rx_elab.specs.Types.{Types, own_type, is_visible_in, type_in, type_named}
@@ -38,8 +36,8 @@ use Rattle.rx_elab.specs.declared.fields.Held.TheVariants as holds
 use Rattle.rx_elab.specs.declared.types.KnownScalar.{KnownScalar}
 use Rattle.rx_elab.specs.declared.types.KnownType.{KnownType}
 use Rattle.rx_elab.specs.declared.types.KnownType.TheVariants as known_type
-use Rattle.rx_spec.specs.Messages.{kind_held, known_from, known_fields, type_held, field_meant, scope_in}
-use Rattle.rx_spec.specs.Sizes.{is_in_order, is_sized, held_sized, field_sized, fields_sized}
+use Rattle.rx_spec.specs.Messages.{kind_held, known_from, known_fields, type_held, field_meant}
+use Rattle.rx_spec.specs.Sizes.{is_in_order, held_sized, field_sized, fields_sized}
 use Rattle.rx_spec.proofs.Domains.{IsTypeOf, IsKnown, domains_of, HasLow, Lists}
 use Rattle.rx_spec.proofs.Proper.{spelled_same, greatest_has_64}
 use Rattle.rx_spec.proofs.Standing.{FieldsStand}
@@ -198,7 +196,7 @@ module _ (t : Types) (h : HeaderTree) (held : List Held) (m : MessageTree) (g : 
       let count = each_length (field_held t.types h.name.word h.withs.items) 0 m.fields.items held e in
       let fields = each_length (field_meant held) 0 m.fields.items g.fields f in
       let fit : (j k : ℕ) (x : Held) → slice_get held k ≡ Some x → j ≡ 0 + k → Fits Domains g held m.fields.items (record { id = j; kind = kind_held x }) =
-        λ j k x s n. let same : j ≡ k = omega arith in fit_at j x l e f (ap (λ z. slice_get held z) same ∙ s) in
+      λ j k x s n. let same : j ≡ k = omega arith in fit_at j x l e f (ap (λ z. slice_get held z) same ∙ s) in
       record {
         count = fields;
         held_count = count;
@@ -207,9 +205,9 @@ module _ (t : Types) (h : HeaderTree) (held : List Held) (m : MessageTree) (g : 
           literals = λ p w k s. all_found HasLow t.literals p w k l.literals s;
         };
         scalar = λ i s k.
-          let y = field_and_held i (holds.Scalar s) count f k in
-          let d = holds_known i (holds.Scalar s) l e k in
-          (d.domain, type_at Domains g held m.fields.items i y.0 (holds.Scalar s) y.1 y.2 ∙ d.is);
+            let y = field_and_held i (holds.Scalar s) count f k in
+            let d = holds_known i (holds.Scalar s) l e k in
+            (d.domain, type_at Domains g held m.fields.items i y.0 (holds.Scalar s) y.1 y.2 ∙ d.is);
         opaque = λ i k. let y = field_and_held i holds.Opaque count f k in type_at Domains g held m.fields.items i y.0 holds.Opaque y.1 y.2;
         overlay = λ i. no_overlay i (slice_get g.fields i) count f refl;
       }

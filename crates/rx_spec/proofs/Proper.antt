@@ -1,5 +1,5 @@
 -- Scalar types whose definitions stand are proper, and their numbers have 64 bits.
-use Rattle.std.proofs.Common.{◌≡◌, ◌∙◌, ap, sym, refl, subst, ℕ, zero, suc, ◌+◌, ◌-◌, ◌^◌, ◌<◌, ◌≤◌, ◌≢◌, max, Bool, true, false, List, [], ◌∷◌, map, length, Option, Some, None, Result, Ok, Err, arith}
+use Rattle.std.proofs.Common.{◌≡◌, ◌∙◌, ap, sym, subst, ℕ, ◌+◌, ◌-◌, ◌^◌, ◌<◌, ◌≢◌, Bool, true, false, List, [], ◌∷◌, map, Some, None, Ok, Err, arith}
 use Rattle.std.specs.Prelude.{ℤ, nat_abs, slice_get, if◌then◌else◌}
 use Rattle.std.specs.List.{AllByRecursion, list_all}
 use Rattle.std.proofs.lemmas.Nat.{pow_pos, pow_below}
@@ -14,11 +14,11 @@ use Rattle.rx_types.specs.declared.scalar.Literal.{Literal}
 use Rattle.rx_types.specs.Domain.{Domain, Integer, Enumeration, greatest, greatest_literal, numbers_of as literal_numbers, greatest_of, IsProper, EachPair, Differ}
 use Rattle.rx_types.specs.Names.{IsSameName, is_name_byte}
 use Rattle.rx_judge.specs.Meaning.{Meaning, ◌>>=◌, each_from, all_stand_from}
-use Rattle.rx_judge.specs.Scalar.{spelled, static_value, is_size, is_range, numbers_of, size_of_aspects, first_some, always_valid, given, are_literals, literal_at, number_at, enumeration, unsigned, range, definition, IsMeasured, AreMeasured}
+use Rattle.rx_judge.specs.Scalar.{spelled, static_value, is_size, is_range, numbers_of, size_of_aspects, first_some, always_valid, given, are_literals, literal_at, number_at, enumeration, unsigned, range, definition, IsMeasured}
 use Rattle.rx_judge.specs.declared.fault.Refusal.{Refusal}
 use Rattle.rx_judge.proofs.Measured.{measured}
-use Rattle.rx_judge.proofs.Meanings.{bind_ok, ok_same, if_ok, err_differs}
-use Rattle.rx_elab.specs.Stand.{Known, literal_fresh, enumeration_stands, enum_aspect_stands, definition_stands}
+use Rattle.rx_judge.proofs.Meanings.{bind_ok, ok_same, if_ok}
+use Rattle.rx_elab.specs.Stand.{Known, literal_fresh, enum_aspect_stands, definition_stands}
 use Rattle.rx_elab.specs.Through.{through}
 use Rattle.rx_spec.proofs.Steps.{taken}
 use Rattle.rx_spec.proofs.Apart.{Fresh, none_fresh, more_fresh, is_fresh, pairs_named}
