@@ -68,7 +68,7 @@ message_elaborated t h name m g s l e k plain =
     let a = made t h name m g e in
     let names = field_names_apart m s a.held g.fields k a.fields in
     let fields = fields_stand t h a.held m g l a.shaped.holds a.fields in
-    let each = fields_elaborated t h a.held m g g.links tt l a.shaped.holds a.fields a.sized a.low in
+    let each = fields_elaborated t h a.held m g l a.shaped.holds a.fields g.links tt a.sized a.low in
     together (domains_of t.scalars) g names each (links_stand (domains_of t.scalars) t h name m g a fields names) plain
 
 no_fields : (h : HeaderTree) (name : Named) (b : Body) (low : Bool) (g : Graph) → graph_named h name b low ≡ Ok g → b.fields ≡ g.fields

@@ -24,7 +24,7 @@ use Rattle.rx_graph.specs.Graph.{Arrow, Graph, scalar_of, type_of, overlay_of, k
 use Rattle.rx_judge.specs.Meaning.{each_from}
 use Rattle.rx_judge.specs.Names.{known}
 use Rattle.rx_judge.specs.Scalar.{spelled}
-use Rattle.rx_judge.specs.Sound.{IsListed}
+use Rattle.rx_judge.specs.Sound.{IsListed, FitScope}
 use Rattle.rx_judge.specs.Table.{Entry, found, added}
 use Rattle.rx_judge.specs.declared.fault.Refusal.{Refusal}
 use Rattle.rx_judge.specs.declared.names.KnownField.{KnownField}
@@ -36,7 +36,7 @@ use Rattle.rx_elab.specs.declared.fields.Held.TheVariants as holds
 use Rattle.rx_elab.specs.declared.types.KnownScalar.{KnownScalar}
 use Rattle.rx_elab.specs.declared.types.KnownType.{KnownType}
 use Rattle.rx_elab.specs.declared.types.KnownType.TheVariants as known_type
-use Rattle.rx_spec.specs.Messages.{kind_held, known_from, known_fields, type_held, field_meant}
+use Rattle.rx_spec.specs.Messages.{kind_held, known_from, known_fields, type_held, field_meant, scope_in}
 use Rattle.rx_spec.specs.Sizes.{is_in_order, held_sized, field_sized, fields_sized}
 use Rattle.rx_spec.proofs.Domains.{IsTypeOf, IsKnown, domains_of, HasLow, Lists}
 use Rattle.rx_spec.proofs.Proper.{spelled_same, greatest_has_64}
@@ -131,7 +131,7 @@ domain_of_held : (domains : List Domain) (h : Held) → domain_by domains (type_
 domain_of_held domains (holds.Scalar s) = refl
 domain_of_held domains holds.Opaque = refl
 
-module _ (domains : List Domain) (g : Graph) (held : List Held) (fs : List FieldTree) where
+module _ (domains : List Domain) (g : Graph) where
   type_at : (i : ℕ) (x : Field) (h : Held) → slice_get g.fields i ≡ Some x → type_held (Some h) ≡ x.kind → type_of domains g i ≡ domain_held domains h
   type_at i x h e k = ap (λ o. scalar_of domains o) e ∙ ap (domain_by domains) (sym k) ∙ domain_of_held domains h
 
@@ -157,86 +157,104 @@ module _ (domains : List Domain) (g : Graph) (held : List Held) (fs : List Field
       let one : KnownField = record { id = i; kind = kind_held h } in
       known_fit (i + 1) (added table [] x.name.word one) hs ts (λ j k y e n. f j (suc k) y e (omega arith)) (all_added Fits table [] x.name.word one t (f i 0 h refl (omega arith)))
 
-module _ (t : Types) (h : HeaderTree) (held : List Held) (m : MessageTree) (g : Graph) where
+-- ---- sizes in low order
+
+or_cases : (a b : Bool) → (a || b) ≡ true → (a ≡ true) ⊎ (b ≡ true)
+or_cases true b e = inl refl
+or_cases false b e = inr e
+
+fits_order : (low : Bool) (size : ℕ) → is_in_order low size ≡ true → FitsOrder low size
+fits_order true size e k = elim (or_cases (nat_lt size 8) (size % 8 == 0) e) [ inl b ↦ inl (ltb-true size 8 b) | inr b ↦ inr ((Decides-eqb (size % 8) 0).0 b) ]
+fits_order false size e k = absurd (cc)
+
+is_field_type : (domains : List Domain) (g : Graph) (low : Bool) (links : List Arrow) (name : Named) (i : ℕ) (x : Held) → IsHeld domains x → held_sized low links name i (Some x) ≡ Ok tt → g.low_order ≡ low → IsFieldType domains g (type_held (Some x))
+is_field_type domains g low links name i (holds.Scalar s) d e k =
+    let r : Refusal = record { number = 19; place = name.place; name = name.word } in
+    let order = if_ok (is_in_order low s.size) tt tt r e in
+    (d.domain, d.is, d.proper, subst (λ n. FitsOrder g.low_order n) (sym d.size) (subst (λ b. FitsOrder b s.size) (sym k) (fits_order low s.size order.0)))
+is_field_type domains g low links name i holds.Opaque d e k = tt
+
+-- ---- a message with its fields
+
+abbrev AreHeld : Types → HeaderTree → List Held → MessageTree → Type 0
+AreHeld t h held m = each_from (field_held t.types h.name.word h.withs.items) 0 m.fields.items ≡ Ok held
+
+abbrev AreMeant : List Held → MessageTree → Graph → Type 0
+AreMeant held m g = each_from (field_meant held) 0 m.fields.items ≡ Ok g.fields
+
+module _ (t : Types) (h : HeaderTree) (held : List Held) (m : MessageTree) (g : Graph) (l : Lists t) (e : AreHeld t h held m) (f : AreMeant held m g) where
   abbrev Domains : List Domain
   Domains = domains_of t.scalars
 
-  holds_known : (i : ℕ) (x : Held) → Lists t → each_from (field_held t.types h.name.word h.withs.items) 0 m.fields.items ≡ Ok held → slice_get held i ≡ Some x → IsHeld Domains x
-  holds_known i x l e s =
-      let within = slice_get_within held i x s in
-      let count = each_length (field_held t.types h.name.word h.withs.items) 0 m.fields.items held e in
-      let f = get_within m.fields.items i (omega arith) in
-      let y = each_at (field_held t.types h.name.word h.withs.items) 0 m.fields.items held i i f.0 e f.1 (omega arith) in
-      let same : y.0 ≡ x = same_Some y.0 x (sym y.1 ∙ s) in
-      subst (λ (z : Held). IsHeld Domains z) same (field_known Domains t.types h.name.word h.withs.items i f.0 y.0 l.types y.2)
+  held_count : length held ≡ length m.fields.items
+  held_count = each_length (field_held t.types h.name.word h.withs.items) 0 m.fields.items held e
 
-  -- the same of the field
-  field_and_held : (i : ℕ) (x : Held) → length held ≡ length m.fields.items → each_from (field_meant held) 0 m.fields.items ≡ Ok g.fields → slice_get held i ≡ Some x → (y : Field) × (slice_get g.fields i ≡ Some y) × (type_held (Some x) ≡ y.kind)
-  field_and_held i x n e s =
+  count : length g.fields ≡ length m.fields.items
+  count = each_length (field_meant held) 0 m.fields.items g.fields f
+
+  holds_known : (i : ℕ) (x : Held) → slice_get held i ≡ Some x → IsHeld Domains x
+  holds_known i x s =
       let within = slice_get_within held i x s in
-      let count = each_length (field_meant held) 0 m.fields.items g.fields e in
-      let y = get_within g.fields i (omega arith) in
-      let at = field_at held m.fields.items g.fields i y.0 n e y.1 in
+      let tree = get_within m.fields.items i (omega (arith, held_count)) in
+      let y = each_at (field_held t.types h.name.word h.withs.items) 0 m.fields.items held i i tree.0 e tree.1 (omega arith) in
+      let same : y.0 ≡ x = same_Some y.0 x (sym y.1 ∙ s) in
+      subst (λ (z : Held). IsHeld Domains z) same (field_known Domains t.types h.name.word h.withs.items i tree.0 y.0 l.types y.2)
+
+  -- the field that holds this
+  field_of : (i : ℕ) (x : Held) → slice_get held i ≡ Some x → (y : Field) × (slice_get g.fields i ≡ Some y) × (type_held (Some x) ≡ y.kind)
+  field_of i x s =
+      let within = slice_get_within held i x s in
+      let y = get_within g.fields i (omega (arith, held_count, count)) in
+      let at = field_at held m.fields.items g.fields i y.0 held_count f y.1 in
       let same : at.hold ≡ x = same_Some at.hold x (sym at.holding ∙ s) in
       (y.0, y.1, ap (λ z. type_held (Some z)) (sym same) ∙ at.kind)
 
-  no_overlay : (i : ℕ) (o : Option Field) → length held ≡ length m.fields.items → each_from (field_meant held) 0 m.fields.items ≡ Ok g.fields → slice_get g.fields i ≡ o → overlay_of o ≡ None
-  no_overlay i None n e s = refl
-  no_overlay i (Some x) n e s = sym (field_at held m.fields.items g.fields i x n e s).overlay
+  no_overlay : (i : ℕ) (o : Option Field) → slice_get g.fields i ≡ o → overlay_of o ≡ None
+  no_overlay i None s = refl
+  no_overlay i (Some x) s = sym (field_at held m.fields.items g.fields i x held_count f s).overlay
 
-  fit_at : (i : ℕ) (x : Held) → Lists t → each_from (field_held t.types h.name.word h.withs.items) 0 m.fields.items ≡ Ok held → each_from (field_meant held) 0 m.fields.items ≡ Ok g.fields → slice_get held i ≡ Some x → Fits Domains g held m.fields.items (record { id = i; kind = kind_held x })
-  fit_at i x l e f s =
-      let count = each_length (field_held t.types h.name.word h.withs.items) 0 m.fields.items held e in
-      let y = field_and_held i x count f s in
-      (slice_get_within g.fields i y.0 y.1, listed Domains g held m.fields.items i y.0 x y.1 y.2 (holds_known i x l e s))
+  fits_at : (j k : ℕ) (x : Held) → slice_get held k ≡ Some x → j ≡ 0 + k → Fits Domains g (record { id = j; kind = kind_held x })
+  fits_at j k x s n =
+      let same : k ≡ j = omega arith in
+      let at : slice_get held j ≡ Some x = ap (λ z. slice_get held z) (sym same) ∙ s in
+      let y = field_of j x at in
+      (slice_get_within g.fields j y.0 y.1, listed Domains g j y.0 x y.1 y.2 (holds_known j x at))
 
-  -- the fields of the text have their types in the message
-  pub fields_stand : Lists t → each_from (field_held t.types h.name.word h.withs.items) 0 m.fields.items ≡ Ok held → each_from (field_meant held) 0 m.fields.items ≡ Ok g.fields → FieldsStand Domains t h held m g
-  fields_stand l e f =
-      let count = each_length (field_held t.types h.name.word h.withs.items) 0 m.fields.items held e in
-      let fields = each_length (field_meant held) 0 m.fields.items g.fields f in
-      let fit : (j k : ℕ) (x : Held) → slice_get held k ≡ Some x → j ≡ 0 + k → Fits Domains g held m.fields.items (record { id = j; kind = kind_held x }) =
-      λ j k x s n. let same : j ≡ k = omega arith in fit_at j x l e f (ap (λ z. slice_get held z) same ∙ s) in
+  scope_fits : FitScope (kind_of Domains g) (limit_of Domains g) (length g.fields) (scope_in t h held m)
+  scope_fits =
       record {
-        count = fields;
-        held_count = count;
-        scope = record {
-          fields = λ w k s. all_found (Fits Domains g held m.fields.items) (known_fields held m.fields.items) [] w k (known_fit Domains g held m.fields.items 0 [] held m.fields.items fit tt) s;
-          literals = λ p w k s. all_found HasLow t.literals p w k l.literals s;
-        };
-        scalar = λ i s k.
-            let y = field_and_held i (holds.Scalar s) count f k in
-            let d = holds_known i (holds.Scalar s) l e k in
-            (d.domain, type_at Domains g held m.fields.items i y.0 (holds.Scalar s) y.1 y.2 ∙ d.is);
-        opaque = λ i k. let y = field_and_held i holds.Opaque count f k in type_at Domains g held m.fields.items i y.0 holds.Opaque y.1 y.2;
-        overlay = λ i. no_overlay i (slice_get g.fields i) count f refl;
+        fields = λ w k s. all_found (Fits Domains g) (known_fields held m.fields.items) [] w k (known_fit Domains g 0 [] held m.fields.items fits_at tt) s;
+        literals = λ p w k s. all_found HasLow t.literals p w k l.literals s;
       }
 
-  -- ---- elaborated fields
+  type_of_scalar : (i : ℕ) (s : KnownScalar) → slice_get held i ≡ Some (holds.Scalar s) → (d : Domain) × (type_of Domains g i ≡ Some d)
+  type_of_scalar i s k =
+      let y = field_of i (holds.Scalar s) k in
+      let d = holds_known i (holds.Scalar s) k in
+      (d.domain, type_at Domains g i y.0 (holds.Scalar s) y.1 y.2 ∙ d.is)
 
-  or_cases : (a b : Bool) → (a || b) ≡ true → (a ≡ true) ⊎ (b ≡ true)
-  or_cases true b e = inl refl
-  or_cases false b e = inr e
+  type_of_bytes : (i : ℕ) → slice_get held i ≡ Some holds.Opaque → type_of Domains g i ≡ None
+  type_of_bytes i k = let y = field_of i holds.Opaque k in type_at Domains g i y.0 holds.Opaque y.1 y.2
 
-  fits_order : (low : Bool) (size : ℕ) → is_in_order low size ≡ true → FitsOrder low size
-  fits_order true size e k = elim (or_cases (nat_lt size 8) (size % 8 == 0) e) [ inl b ↦ inl (ltb-true size 8 b) | inr b ↦ inr ((Decides-eqb (size % 8) 0).0 b) ]
-  fits_order false size e k = absurd (cc)
-
-  field_type_of : (low : Bool) (links : List Arrow) (name : Named) (i : ℕ) (x : Held) → IsHeld Domains x → held_sized low links name i (Some x) ≡ Ok tt → g.low_order ≡ low → IsFieldType Domains g (type_held (Some x))
-  field_type_of low links name i (holds.Scalar s) d e k =
-      let r : Refusal = record { number = 19; place = name.place; name = name.word } in
-      let order = if_ok (is_in_order low s.size) tt tt r e in
-      (d.domain, d.is, d.proper, subst (λ n. FitsOrder g.low_order n) (sym d.size) (subst (λ b. FitsOrder b s.size) (sym k) (fits_order low s.size order.0)))
-  field_type_of low links name i holds.Opaque d e k = tt
+  -- the fields of the text have their types in the message
+  pub fields_stand : FieldsStand Domains t h held m g
+  fields_stand =
+      record {
+        count = count;
+        held_count = held_count;
+        scope = scope_fits;
+        scalar = type_of_scalar;
+        opaque = type_of_bytes;
+        overlay = λ i. no_overlay i (slice_get g.fields i) refl;
+      }
 
   -- the fields are elaborated, where they have their sizes
-  pub fields_elaborated : (links : List Arrow) (u : Unit {0}) → Lists t → each_from (field_held t.types h.name.word h.withs.items) 0 m.fields.items ≡ Ok held → each_from (field_meant held) 0 m.fields.items ≡ Ok g.fields → fields_sized m.low_order held links m.fields.items ≡ Ok u → g.low_order ≡ m.low_order → (i : ℕ) (x : Field) → slice_get g.fields i ≡ Some x → IsElaboratedField Domains g x
-  fields_elaborated links u l e f sized low i x s =
-      let count = each_length (field_held t.types h.name.word h.withs.items) 0 m.fields.items held e in
-      let at = field_at held m.fields.items g.fields i x count f s in
+  pub fields_elaborated : (links : List Arrow) (u : Unit {0}) → fields_sized m.low_order held links m.fields.items ≡ Ok u → g.low_order ≡ m.low_order → (i : ℕ) (x : Field) → slice_get g.fields i ≡ Some x → IsElaboratedField Domains g x
+  fields_elaborated links u sized low i x s =
+      let at = field_at held m.fields.items g.fields i x held_count f s in
       let stands = stands_at (field_sized m.low_order held links) 0 m.fields.items u i i at.tree sized at.text (omega arith) in
       let is_sized : held_sized m.low_order links at.tree.name i (Some at.hold) ≡ Ok tt = ap (λ o. held_sized m.low_order links at.tree.name i o) (sym at.holding) ∙ stands in
       record {
-        kind = subst (λ k. IsFieldType Domains g k) at.kind (field_type_of m.low_order links at.tree.name i at.hold (holds_known i at.hold l e at.holding) is_sized low);
+        kind = subst (λ k. IsFieldType Domains g k) at.kind (is_field_type Domains g m.low_order links at.tree.name i at.hold (holds_known i at.hold at.holding) is_sized low);
         overlay = λ y k. absurd (none-some y (at.overlay ∙ k));
       }

@@ -15,15 +15,6 @@ get_within [] k h = absurd (omega arith)
 get_within (x ∷ xs) zero h = (x, refl)
 get_within (x ∷ xs) (suc k) h = get_within xs k (omega arith)
 
-pub get_before : {A : Type 0} (xs ys : List A) (k : ℕ) (x : A) → slice_get xs k ≡ Some x → slice_get (xs ++ ys) k ≡ Some x
-get_before [] ys k x h = absurd (none-some x h)
-get_before (z ∷ xs) ys zero x h = h
-get_before (z ∷ xs) ys (suc k) x h = get_before xs ys k x h
-
-pub get_last : {A : Type 0} (xs : List A) (x : A) → slice_get (xs ++ x ∷ []) (length xs) ≡ Some x
-get_last [] x = refl
-get_last (z ∷ xs) x = get_last xs x
-
 pub all_push : {A : Type 0} (P : A → Type 0) (xs : List A) (x : A) → AllByRecursion P xs → P x → AllByRecursion P (xs ++ x ∷ [])
 all_push P [] x h k = (k, tt)
 all_push P (z ∷ xs) x h k = (h.0, all_push P xs x h.1 k)
@@ -77,7 +68,7 @@ stands_at f n (a ∷ xs) u j (suc k) x h g e =
 
 -- ---- tables
 
-pub added_if : {A : Type 0} (P : A → Type 0) (b : Bool) (table : List (Entry A)) (e : Entry A) → AllByRecursion (λ x. P x.thing) table → P e.thing → AllByRecursion (λ x. P x.thing) (if b then table else table ++ e ∷ [])
+added_if : {A : Type 0} (P : A → Type 0) (b : Bool) (table : List (Entry A)) (e : Entry A) → AllByRecursion (λ x. P x.thing) table → P e.thing → AllByRecursion (λ x. P x.thing) (if b then table else table ++ e ∷ [])
 added_if P true table e h k = h
 added_if P false table e h k = all_push (λ x. P x.thing) table e h k
 
