@@ -34,7 +34,7 @@ use Rattle.rx_spec.specs.Messages.{message_of, Body, graph_named, null_body, wit
 use Rattle.rx_spec.specs.declared.fault.SpecFault.{SpecFault}
 use Rattle.rx_spec.proofs.Domains.{domains_of, Lists, types_list, declarations_stand, in_package_ok}
 use Rattle.rx_spec.proofs.FieldNames.{field_names_apart}
-use Rattle.rx_spec.proofs.Fields.{fields_stand, fields_elaborated}
+use Rattle.rx_spec.proofs.Holding.{fields_stand, fields_elaborated}
 use Rattle.rx_spec.proofs.Nothing.{null_links}
 use Rattle.rx_spec.proofs.Parting.{made}
 use Rattle.rx_spec.proofs.Standing.{LinksStand}

@@ -1,9 +1,10 @@
 pub mod Apart
+pub mod Clauses
 pub mod Domains
 pub mod Elaborating
 pub mod Expressions
 pub mod FieldNames
-pub mod Fields
+pub mod Holding
 pub mod Items
 pub mod Nothing
 pub mod Parting
@@ -13,4 +14,3 @@ pub mod Proper
 pub mod Standing
 pub mod Steps
 pub mod Targets
-pub mod Ways

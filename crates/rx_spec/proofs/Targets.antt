@@ -48,7 +48,7 @@ use Rattle.rx_spec.proofs.Pathing.{at_most, few_paths}
 use Rattle.rx_spec.proofs.Placing.{AreApart, scalar_named, own_place, parts_without, sized_or_ends}
 use Rattle.rx_spec.proofs.Standing.{FieldsStand, LinksStand}
 use Rattle.rx_spec.proofs.Steps.{get_within, all_at, each_at, stands_at}
-use Rattle.rx_spec.proofs.Ways.{IsBegin, IsEnd, Says, is_way, start_has, field_has}
+use Rattle.rx_spec.proofs.Clauses.{IsBegin, IsEnd, Says, is_way, start_has, field_has}
 
 -- ---- fields with names of their own
 
