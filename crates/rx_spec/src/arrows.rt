@@ -218,12 +218,12 @@ fn link_joined(
     requires source { IsStop (2 ^ 16) way.source }
     requires target { IsStop (2 ^ 16) way.target }
     ensures { IfOk result (λ l. arrow_of l ≡ record {
-        source = node_of way.source;
-        target = node_of way.target;
-        condition = both (parts_kept (option_copied source.entry)).condition (parts_kept (option_copied clause.entry)).condition;
-        first = option_or (parts_kept (option_copied clause.entry)).first (parts_kept (option_copied target.entry)).first;
-        size = option_or (parts_kept (option_copied clause.entry)).size (parts_kept (option_copied target.entry)).size;
-        place = place;
+      source = node_of way.source;
+      target = node_of way.target;
+      condition = both (parts_kept (option_copied source.entry)).condition (parts_kept (option_copied clause.entry)).condition;
+      first = option_or (parts_kept (option_copied clause.entry)).first (parts_kept (option_copied target.entry)).first;
+      size = option_or (parts_kept (option_copied clause.entry)).size (parts_kept (option_copied target.entry)).size;
+      place = place;
     }) }
 {
     let condition = both(alloc, condition_of(source), condition_of(clause))?;

@@ -77,7 +77,13 @@ fn sized_links(
     ensures refusal { IfErr result (λ e. Tells e (sized_links (types_of types.now) header.now name.now message.now (shape_of_code shape.now))) }
 {
     let links = links_meant(alloc, types, header, name, message, shape)?;
-    fields_sized(alloc, message.low_order, &shape.held, &links, &message.fields)?;
+    fields_sized(
+        alloc,
+        message.low_order,
+        &shape.held,
+        &links,
+        &message.fields,
+    )?;
     Ok(links)
 }
 

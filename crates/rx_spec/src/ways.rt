@@ -48,12 +48,7 @@ fn counted_ways(
     paths_and_few(alloc, name, message, ways)
 }
 
-fn ways_stand(
-    alloc: Global,
-    name: &Named,
-    message: &MessageTree,
-    ways: &[Way],
-) -> Result<(), Fault>
+fn ways_stand(alloc: Global, name: &Named, message: &MessageTree, ways: &[Way]) -> Result<(), Fault>
     requires within { AreWithin (length message.now.fields.items) ways.now }
     ensures meaning { IfOk result (λ x. ways_stand name.now message.now ways.now ≡ Ok x) }
     ensures refusal { IfErr result (λ e. Tells e (ways_stand name.now message.now ways.now)) }
@@ -75,11 +70,7 @@ fn ways_read(alloc: Global, message: &MessageTree) -> Result<Vec<Way>, Fault>
 
 /// The links of a message in order of text: 8 at a target that is no field, 16 where one leads back, 21 where there are
 /// too many fields, links or paths, and 6 where an expression has too many operators.
-pub(crate) fn ways_of(
-    alloc: Global,
-    name: &Named,
-    message: &MessageTree,
-) -> Result<Vec<Way>, Fault>
+pub(crate) fn ways_of(alloc: Global, name: &Named, message: &MessageTree) -> Result<Vec<Way>, Fault>
     ensures meaning { IfOk result (λ ws. ways_of name.now message.now ≡ Ok ws.items) }
     ensures refusal { IfErr result (λ e. Tells e (ways_of name.now message.now)) }
     ensures within { IfOk result (λ ws. AreWithin (length message.now.fields.items) ws.items) }
