@@ -70,7 +70,7 @@ fn type_held(held: Option<Held>) -> FieldType
     }
 }
 
-fn held_at(held: &[Held], index: usize) -> Option<Held>
+pub(crate) fn held_at(held: &[Held], index: usize) -> Option<Held>
     ensures { result ≡ slice_get held.now index }
 {
     held.get(index).copied()

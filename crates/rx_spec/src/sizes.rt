@@ -1,12 +1,13 @@
 //! Sizes of fields, and the sizes of scalars in low order.
 
-ghost use Rattle.std.specs.Prelude.{◌≡◌, IfOk, IfErr, slice_get};
+ghost use Rattle.std.specs.Prelude.{◌≡◌, IfOk, IfErr};
 ghost use Rattle.std.specs.List.{list_any};
 ghost use Rattle.rx_graph.specs.Checks.{is_node};
 ghost use Rattle.rx_graph.specs.Graph.{arrow_of, arrows};
 ghost use Rattle.rx_judge.specs.Meaning.{Tells};
 ghost use Rattle.rx_spec.specs.Sizes.{lacks_size, only_ends, is_sized, is_in_order, held_sized, fields_sized};
 
+use crate::fields::held_at;
 use rx_elab::Held;
 use rx_graph::{Link, Node};
 use rx_judge::{Fault, refused_at};
@@ -77,12 +78,6 @@ fn is_in_order(low: bool, size: u8) -> bool
     ensures { result ≡ is_in_order low size }
 {
     !low || size < 8 || size % 8 == 0
-}
-
-fn held_at(held: &[Held], index: usize) -> Option<Held>
-    ensures { result ≡ slice_get held.now index }
-{
-    held.get(index).copied()
 }
 
 fn held_sized(
