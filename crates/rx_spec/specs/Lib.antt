@@ -1,0 +1,7 @@
+pub mod Arrows
+pub mod Elaboration
+pub mod Kept
+pub mod Laws
+pub mod Messages
+pub mod Shape
+pub mod Sizes
