@@ -6,8 +6,8 @@ use Rattle.rx_types.specs.Domain.{Domain}
 use Rattle.rx_graph.specs.Graph.{Graph}
 use Rattle.rx_graph.specs.Fits.{Assigned, IsAscending, ReadsAs, ReadsNothing, StopsAt}
 use Rattle.rx_values.specs.Printing.{json_text}
-use Rattle.rx_decode.specs.declared.decode.Decoded.{Decoded}
-use Rattle.rx_decode.specs.declared.decode.Decoded.TheVariants.{Json, Refused}
+use Rattle.rx_decode.specs.declared.decoding.Decoded.{Decoded}
+use Rattle.rx_decode.specs.declared.decoding.Decoded.TheVariants.{Json, Refused}
 
 pub record IsJson (domains : List Domain) (m : Graph) (bytes text : List ℕ) : Type 0 where
   pub values : List Assigned

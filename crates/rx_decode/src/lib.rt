@@ -1,7 +1,7 @@
 //! The JSON of what a buffer reads as, by the plan of a message.
 #![tactic(auto)]
 
-mod decode;
+mod decoding;
 
-pub use decode::{Decoded, decode};
+pub use decoding::{Decoded, decode};
 pub use rx_values::NoMemory;
