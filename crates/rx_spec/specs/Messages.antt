@@ -2,7 +2,7 @@
 --   known_fields hs fs        the fields by their names, for the expressions of the message
 --   message_of t h name m     message m of the package with header h
 --   package_messages t gs p   the messages of a package, behind those before it
-use Rattle.std.specs.Prelude.{ℕ, ◌+◌, true, false, List, [], ◌∷◌, ◌++◌, Option, Some, None, Ok, slice_get, map}
+use Rattle.std.specs.Prelude.{ℕ, ◌+◌, Bool, true, false, List, [], ◌∷◌, ◌++◌, Option, Some, None, Ok, slice_get, map}
 use Rattle.rx_syntax.specs.declared.tree.Named.{Named}
 use Rattle.rx_syntax.specs.declared.tree.FieldTree.{FieldTree}
 use Rattle.rx_syntax.specs.declared.tree.MessageTree.{MessageTree}
