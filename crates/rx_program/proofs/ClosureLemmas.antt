@@ -299,7 +299,7 @@ front_next names k name there =
 pub fetches_none : (told : Option Texts) (names asked : List (List ℕ)) (trees : List PackageTree) (k : ℕ) → IfSome told (λ texts. (name : List ℕ) × (slice_get names k ≡ Some name) × HasNone texts name)
     → IfSome told (λ texts. AreFetched texts (take k names) asked trees → AreFetched texts (take (k + 1) names) asked trees)
 fetches_none None names asked trees k none = tt
-fetches_none (Some texts) names asked trees k none = λ has. subst (λ (l : List (List ℕ)). AreFetched texts l asked trees) (sym (front_next names k none.0 none.1)) (absent has none.2)
+fetches_none (Some texts) names asked trees k none = λ has. subst (λ (l : List (List ℕ)). AreFetched texts l asked trees) (sym (front_next names k none.0 none.1)) (absent none.0 has none.2)
 
 pub fetches_one : (told : Option Texts) (names after asked asked' : List (List ℕ)) (trees trees' : List PackageTree) (k : ℕ) (name : List ℕ) (tree : PackageTree) → slice_get names k ≡ Some name
     → IfSome told (λ texts. HasTree texts name tree) → after ≡ added names (withs_of tree) → asked' ≡ asked ++ name ∷ [] → trees' ≡ trees ++ tree ∷ []

@@ -5,6 +5,7 @@ pub mod OperandLemmas
 pub mod RequestLemmas
 pub mod StageLemmas
 pub mod WordLemmas
+pub mod OneAnswer
 pub mod OneHeader
 pub mod OneText
 pub mod OneWalk

@@ -1,7 +1,7 @@
 //! What the definitions of answers say together, as contracts of functions that do nothing.
-ghost use Rattle.rx_program.specs.Laws.{OneAnswer};
+ghost use Rattle.rx_program.specs.Laws.{OneEnd};
 
-/// But for faults of the shelf and the source, at most one answer belongs to words, texts and input.
-pub fn one_answer()
-    ensures { OneAnswer }
+/// A command that ends before its packages are all read has one answer, but for faults of the shelf.
+pub fn one_end()
+    ensures { OneEnd }
 {}

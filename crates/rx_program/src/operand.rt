@@ -6,7 +6,7 @@ ghost use Rattle.rx_graph.specs.Graph.{Arrow, arrow_of, arrows, domains_of, grap
 ghost use Rattle.rx_context.specs.Plain.{HasLinkBefore, HasOneLink, IsPlain};
 ghost use Rattle.rx_spec.specs.Laws.{HasNoFirst};
 ghost use Rattle.rx_program.specs.Names.{is_same};
-ghost use Rattle.rx_program.specs.Operand.{is_of, message_in, IsSecondLink, declared_name, place_in, name_place};
+ghost use Rattle.rx_program.specs.Operand.{is_of, message_in, IsSecondLink, place_in, name_place};
 
 use crate::words::Operand;
 use rx_context::is_plain;

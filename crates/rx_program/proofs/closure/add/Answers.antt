@@ -6,7 +6,10 @@ use Rattle.rx_program.proofs.ClosureLemmas.{added-next, added-front, too_many_mo
 use Rattle.rx_program.proofs.closure.add.Goals as goal
 
 pub add_one-requires : goal.add_one-requires
-add_one-requires c = c.loop-named.invariant.few
+add_one-requires c = record {
+  few = c.loop-named.invariant.few;
+  named = subst (λ (n : Named). IsName n.word) (sym c.named-item.is) (All-at (λ (n : Named). IsName n.word) c.args.more.now c.loop-named.named-index c.named-item.result c.requires.named c.loop-named-test.true);
+}
 
 pub loop-named-preserved : goal.loop-named-preserved
 loop-named-preserved c = record {
