@@ -26,7 +26,7 @@ use Rattle.rx_syntax.specs.declared.tree.PackageTree.{PackageTree}
 use Rattle.rx_program.specs.declared.closure.Stop.{Stop}
 use Rattle.rx_program.specs.declared.closure.Stop.TheVariants.{Fault, NoPackage, TextLimit, Refused, PackageLimit, NoMemory}
 use Rattle.rx_program.specs.Refusals.{lexer_refusal, parser_refusal}
-use Rattle.rx_program.specs.Closure.{package_limit, HasNone, HasLong, HasText, IsRefused, by_lexer, by_parser, IsTree, HasRefused, HasTree, withs_of, added_one, added, IsStep, passes, reads, Walked, begins, goes_on, Reaches, AreFetched, nothing, absent, fetched, IsClosure, ArePaired}
+use Rattle.rx_program.specs.Closure.{package_limit, HasNone, HasLong, HasText, IsRefused, by_lexer, by_parser, IsTree, HasRefused, HasTree, withs_of, added_one, added, IsStep, passes, reads, Walked, begins, goes_on, Reaches, AreFetched, no_packages, one_absent, one_fetched, IsClosure, ArePaired}
 use Rattle.rx_program.specs.Stop.{RefusedFor, IsOfLexer, IsOfParser, IsUnread, IsTooMany, Stops, StopsAt}
 
 -- a refusal of one kind is one of another
@@ -176,9 +176,9 @@ unread_by None name text stop has is = tt
 unread_by (Some texts) name text stop has is = unread_in texts name text stop has is
 
 -- a step of the walk, and where it ends
-pub step_passes : (told : Option Texts) (k : ℕ) (names : List (List ℕ)) (name : List ℕ) → 0 < k → slice_get names k ≡ Some name → IfSome told (λ texts. HasNone texts name) → IfSome told (λ texts. IsStep texts k names names)
-step_passes None k names name after there none = tt
-step_passes (Some texts) k names name after there none = passes after there none
+pub step_passes : (told : Option Texts) (k : ℕ) (names : List (List ℕ)) → 0 < k → IfSome told (λ texts. (name : List ℕ) × (slice_get names k ≡ Some name) × HasNone texts name) → IfSome told (λ texts. IsStep texts k names names)
+step_passes None k names after none = tt
+step_passes (Some texts) k names after none = passes after none.1 none.2
 
 pub step_reads : (told : Option Texts) (k : ℕ) (names more : List (List ℕ)) (name : List ℕ) (tree : PackageTree) → slice_get names k ≡ Some name → IfSome told (λ texts. HasTree texts name tree)
     → more ≡ added names (withs_of tree) → length more ≤ package_limit → IfSome told (λ texts. IsStep texts k names more)
@@ -235,10 +235,6 @@ walk_closes (Some texts) start names one asked trees more k all walked fetched =
       fetched = subst (λ (l : List (List ℕ)). AreFetched texts l asked more) whole (fetched has);
     }
 
--- a name that is put at the end of no names stands alone
-pub only_one : (none : List (List ℕ)) (name : List ℕ) (after : List (List ℕ)) → none ≡ [] → after ≡ none ++ name ∷ [] → after ≡ name ∷ []
-only_one none name after empty is = is ∙ ap (λ (l : List (List ℕ)). l ++ name ∷ []) empty
-
 -- the first package
 pub begun : (told : Option Texts) (name : List ℕ) (one names : List (List ℕ)) (tree : PackageTree) → one ≡ name ∷ [] → IfSome told (λ texts. HasTree texts name tree)
     → names ≡ added one (withs_of tree) → length names ≤ package_limit → IfSome told (λ texts. Walked texts name 1 names)
@@ -281,7 +277,7 @@ added_one-front names name k within = by_test (list_any (λ other. is_same other
   where
     by_test : (b : Bool) → take k (if b then names else names ++ name ∷ []) ≡ take k names
     by_test true = refl
-    by_test false = take-append-le names (name ∷ []) k within
+    by_test false = take-append-le k names (name ∷ []) within
 
 -- names that are put at the end leave the front as it was
 added-kept : (names more : List (List ℕ)) (k : ℕ) → k ≤ length names → take k (added names more) ≡ take k names
@@ -294,12 +290,12 @@ added-kept names (n ∷ more) k within =
 front_next : (names : List (List ℕ)) (k : ℕ) (name : List ℕ) → slice_get names k ≡ Some name → take (k + 1) names ≡ take k names ++ name ∷ []
 front_next names k name there =
     let within = slice_get_within names k name there in
-    take_more names k name within ∙ ap (λ n. take k names ++ n ∷ []) (sym (get_or_from_slice_get names k name name there))
+    take_more names k name within ∙ ap (λ n. take k names ++ n ∷ []) (get_or_from_slice_get names k name name there)
 
 pub fetches_none : (told : Option Texts) (names asked : List (List ℕ)) (trees : List PackageTree) (k : ℕ) → IfSome told (λ texts. (name : List ℕ) × (slice_get names k ≡ Some name) × HasNone texts name)
     → IfSome told (λ texts. AreFetched texts (take k names) asked trees → AreFetched texts (take (k + 1) names) asked trees)
 fetches_none None names asked trees k none = tt
-fetches_none (Some texts) names asked trees k none = λ has. subst (λ (l : List (List ℕ)). AreFetched texts l asked trees) (sym (front_next names k none.0 none.1)) (absent none.0 has none.2)
+fetches_none (Some texts) names asked trees k none = λ has. subst (λ (l : List (List ℕ)). AreFetched texts l asked trees) (sym (front_next names k none.0 none.1)) (one_absent none.0 has none.2)
 
 pub fetches_one : (told : Option Texts) (names after asked asked' : List (List ℕ)) (trees trees' : List PackageTree) (k : ℕ) (name : List ℕ) (tree : PackageTree) → slice_get names k ≡ Some name
     → IfSome told (λ texts. HasTree texts name tree) → after ≡ added names (withs_of tree) → asked' ≡ asked ++ name ∷ [] → trees' ≡ trees ++ tree ∷ []
@@ -308,14 +304,14 @@ fetches_one None names after asked asked' trees trees' k name tree there has lis
 fetches_one (Some texts) names after asked asked' trees trees' k name tree there has list one other =
     let within = slice_get_within names k name there in
     let kept : take (k + 1) after ≡ take k names ++ name ∷ [] = ap (take (k + 1)) list ∙ added-kept names (withs_of tree) (k + 1) (omega arith) ∙ front_next names k name there in
-    λ before. rw (kept, one, other) (fetched before has)
+    λ before. rw (kept, one, other) (one_fetched before has)
 
 pub fetches_first : (told : Option Texts) (names asked : List (List ℕ)) (trees : List PackageTree) (name : List ℕ) (tree : PackageTree) → IfSome told (λ texts. HasTree texts name tree)
     → names ≡ added (name ∷ []) (withs_of tree) → asked ≡ name ∷ [] → trees ≡ tree ∷ [] → IfSome told (λ texts. AreFetched texts (take 1 names) asked trees)
 fetches_first None names asked trees name tree has list one other = tt
 fetches_first (Some texts) names asked trees name tree has list one other =
     let kept : take 1 names ≡ name ∷ [] = ap (take 1) list ∙ added-kept (name ∷ []) (withs_of tree) 1 (omega arith) in
-    rw (kept, one, other) (fetched nothing has)
+    rw (kept, one, other) (one_fetched no_packages has)
 
 pub fetches_on : (told now : Option Texts) (start one names asked more asked' : List (List ℕ)) (trees trees' trees'' : List PackageTree) → SameTexts told now
     → IfSome told (λ texts. AreFetchedFrom texts start one trees names asked trees') → IfSome now (λ texts. AreFetched texts names asked trees' → AreFetched texts more asked' trees'')
@@ -328,3 +324,6 @@ fetches_on (Some texts) now start one names asked more asked' trees trees' trees
 -- one package more, with its name
 pub paired_more : (asked asked' : List (List ℕ)) (trees trees' : List PackageTree) (name : List ℕ) (tree : PackageTree) → asked' ≡ asked ++ name ∷ [] → trees' ≡ trees ++ tree ∷ [] → length asked ≡ length trees → ArePaired asked' trees'
 paired_more asked asked' trees trees' name tree one other same = rw (one, other) (record { some = simp length-append (omega arith); same = simp length-append (omega arith) })
+
+pub paired_first : (asked : List (List ℕ)) (trees : List PackageTree) (name : List ℕ) (tree : PackageTree) → asked ≡ name ∷ [] → trees ≡ tree ∷ [] → ArePaired asked trees
+paired_first asked trees name tree one other = rw (one, other) (record { some = omega arith; same = refl })

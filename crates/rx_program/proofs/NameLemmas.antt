@@ -1,6 +1,6 @@
 -- The words of a text have the bytes of names, and so have the names that a package gives by `with`.
 use Rattle.std.proofs.Common.{◌≡◌, ◌<◌, ℕ, Bool, true, false, ◌&&◌, List, [], ◌∷◌, ◌++◌, refl, sym, subst, arith, Option}
-use Rattle.std.specs.Prelude.{All, IsTrue}
+use Rattle.std.specs.Prelude.{All}
 use Rattle.std.specs.List.{list_all, AllByRecursion}
 use Rattle.std.specs.Str.{IsAscii}
 use Rattle.std.proofs.lemmas.Bool.Decides.{nat_tests}
@@ -24,7 +24,7 @@ word_is_name b is = grind (arith, nat_tests)
 
 -- bytes of words are those of a name
 pub name_of_word : (w : List ℕ) → list_all is_word_byte w ≡ true → IsName w
-name_of_word w all = subst IsTrue (sym (all_also is_word_byte is_name_byte word_is_name w all)) tt
+name_of_word w all = all_also is_word_byte is_name_byte word_is_name w all
 
 -- ---- tokens
 
@@ -85,16 +85,9 @@ name_byte_small : (b : ℕ) → is_name_byte b ≡ true → b < 128
 name_byte_small b is = grind (arith, nat_tests)
 
 pub name_ascii : (bytes : List ℕ) → IsName bytes → IsAscii bytes
-name_ascii bytes is = ascii bytes (true_of (list_all is_name_byte bytes) is)
+name_ascii [] is = IsAscii-nil
+name_ascii (b ∷ bs) is = (let parts = split (is_name_byte b) (list_all is_name_byte bs) is in IsAscii-cons b bs (name_byte_small b parts.0) (name_ascii bs parts.1))
   where
-    true_of : (b : Bool) → IsTrue b → b ≡ true
-    true_of true is = refl
-    true_of false is = absurd is
-
-    ascii : (bs : List ℕ) → list_all is_name_byte bs ≡ true → IsAscii bs
-    ascii [] all = IsAscii-nil
-    ascii (b ∷ bs) all = (let parts = split (is_name_byte b) (list_all is_name_byte bs) all in IsAscii-cons b bs (name_byte_small b parts.0) (ascii bs parts.1))
-      where
-        split : (p q : Bool) → (p && q) ≡ true → (p ≡ true) × (q ≡ true)
-        split true q h = (refl, h)
-        split false q h = absurd (let no : false ≡ true = h in cc)
+    split : (p q : Bool) → (p && q) ≡ true → (p ≡ true) × (q ≡ true)
+    split true q h = (refl, h)
+    split false q h = absurd (let no : false ≡ true = h in cc)

@@ -110,9 +110,9 @@ pub record IsCrowded (texts : Texts) (first : List ℕ) : Type 0 where
 
 -- the packages of a list of names that the shelf has, in its order: the names under which they were fetched, and their trees
 pub data AreFetched (texts : Texts) : List (List ℕ) → List (List ℕ) → List PackageTree → Type 0 where
-  nothing : AreFetched texts [] [] []
-  absent : {names asked : List (List ℕ)} {trees : List PackageTree} (name : List ℕ) → AreFetched texts names asked trees → HasNone texts name → AreFetched texts (names ++ name ∷ []) asked trees
-  fetched : {names asked : List (List ℕ)} {trees : List PackageTree} {name : List ℕ} {tree : PackageTree} → AreFetched texts names asked trees → HasTree texts name tree
+  no_packages : AreFetched texts [] [] []
+  one_absent : {names asked : List (List ℕ)} {trees : List PackageTree} (name : List ℕ) → AreFetched texts names asked trees → HasNone texts name → AreFetched texts (names ++ name ∷ []) asked trees
+  one_fetched : {names asked : List (List ℕ)} {trees : List PackageTree} {name : List ℕ} {tree : PackageTree} → AreFetched texts names asked trees → HasTree texts name tree
       → AreFetched texts (names ++ name ∷ []) (asked ++ name ∷ []) (trees ++ tree ∷ [])
 
 -- the walk from the first package has gone through all packages of the list, of which the shelf has these
