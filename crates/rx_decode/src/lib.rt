@@ -1,7 +1,15 @@
-//! The JSON of what a buffer reads as, by the plan of a message.
+//! Decodes a buffer by the plan of a message: the JSON of the valuation that it reads as, or why no path fits.
 #![tactic(auto)]
 
 mod decoding;
+mod fault;
+mod gathering;
+mod laws;
+#[cfg(test)]
+mod tests;
+#[cfg(test)]
+mod worked;
 
 pub use decoding::{Decoded, decode};
-pub use rx_values::NoMemory;
+pub use fault::NoMemory;
+pub use laws::{one_answer, overlays_of_plain_messages_fit};
