@@ -49,16 +49,19 @@ answers_branching input r s m place finds second =
 pub answers_unchecked : (input : Option (List ℕ)) (r : Request) (spec : Spec) (m : Graph) (place : Place) → Finds r (spec_of spec) m → HasOneLink m → (IsPlain (domains_of spec) m → ⊥)
     → ((tree : PackageTree) × (slice_get r.trees 0 ≡ Some tree) × (place ≡ name_place tree r.message)) → IfSome input (λ left. AnswersTo r left (answer.Unchecked r.name place))
 answers_unchecked input r spec m place finds one not_plain there =
-    told_any input r (answer.Unchecked r.name place) (λ left. (refl, record {
-      spec = spec_of spec;
-      graph = m;
-      finds = finds;
-      one_link = one;
-      not_plain = λ plain. not_plain (subst (λ (ds : List Domain). IsPlain ds m) (domains_same spec) plain);
-      tree = there.0;
-      first = there.1;
-      place_is = there.2;
-    }))
+    told_any input r (answer.Unchecked r.name place) (λ left. (
+      refl,
+      record {
+        spec = spec_of spec;
+        graph = m;
+        finds = finds;
+        one_link = one;
+        not_plain = λ plain. not_plain (subst (λ (ds : List Domain). IsPlain ds m) (domains_same spec) plain);
+        tree = there.0;
+        first = there.1;
+        place_is = there.2;
+      },
+    ))
 
 input_answers : (r : Request) (s : Specified) (m : Graph) (left : List ℕ) (a : Answer) → Serves r s m → IsReadAs (domains_in s) m left a → AnswersTo r left a
 input_answers r s m left answer.Usage serves read = absurd read

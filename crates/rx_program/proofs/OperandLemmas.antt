@@ -1,5 +1,5 @@
 -- The message that is asked for, item by item of lists.
-use Rattle.std.proofs.Common.{◌≡◌, ℕ, ◌+◌, ◌<◌, ◌≤◌, Bool, true, false, List, [], ◌∷◌, length, map, drop, get_or, refl, sym, ap, ◌∙◌, subst, Option, None, Some, if◌then◌else◌}
+use Rattle.std.proofs.Common.{◌≡◌, ℕ, ◌+◌, ◌<◌, ◌≤◌, Bool, true, false, List, [], ◌∷◌, length, map, drop, get_or, refl, sym, ap, ◌∙◌, subst, arith, Option, None, Some, if◌then◌else◌}
 use Rattle.std.specs.Prelude.{slice_get}
 use Rattle.std.specs.List.{AllByRecursion}
 use Rattle.std.proofs.lemmas.List.{at_drop_more, at_drop_all}
@@ -10,10 +10,24 @@ use Rattle.rx_graph.specs.declared.message.Message.{Message}
 use Rattle.rx_graph.specs.declared.spec.Scalar as code
 use Rattle.rx_graph.specs.declared.spec.Spec.{Spec}
 use Rattle.rx_graph.specs.Elaborated.{IsElaborated}
-use Rattle.rx_graph.specs.Graph.{Graph, graph_of, spec_of, named_domain_of, domains_of}
-use Rattle.rx_context.specs.Plain.{IsPlain}
+use Rattle.rx_graph.specs.Cycles.{IsLink}
+use Rattle.rx_graph.specs.Graph.{Arrow, Graph, graph_of, spec_of, named_domain_of, domains_of}
+use Rattle.rx_context.specs.Plain.{HasLinkBefore, IsPlain}
 use Rattle.rx_spec.specs.Laws.{HasNoFirst, IsSoundSpec, domains_in}
 use Rattle.rx_program.specs.Operand.{is_of, message_in, place_in, place_or, name_place_in}
+
+pub clash : true ≡ false → ⊥
+clash h = cc
+
+pub same_link : (a b : Arrow) → Some a ≡ Some b → a ≡ b
+same_link a b h = cc
+
+-- where no node has two of the first n links, none of them is a second one
+pub no_second : (m : Graph) (n : ℕ) → ((i j : ℕ) (a b : Arrow) → i < n → j < n → IsLink m i a → IsLink m j b → a.source ≡ b.source → i ≡ j) → (j : ℕ) (other : Arrow) → j < n → IsLink m j other → HasLinkBefore m.links j other.source → ⊥
+no_second m n one j other within there before =
+    let earlier = before.2 in
+    let e : before.0 ≡ j = one before.0 j before.1 other (omega arith) within before.3 there before.4 in
+    absurd (omega arith)
 
 -- the first i messages are others
 pub record OthersSofar (name message : List ℕ) (ms : List Message) (i : ℕ) : Type 0 where
@@ -40,11 +54,11 @@ no_message {name = name} {message = message} {ms = ms} {i = i} s past = s.rest �
 -- what holds of all messages holds of the one that is found
 pub found_has : (P : Graph → Type 0) (name message : List ℕ) (ms : List Graph) (m : Graph) → AllByRecursion P ms → message_in name message ms ≡ Some m → P m
 found_has P name message [] m all is = absurd (let no : None ≡ Some m = is in cc)
-found_has P name message (x ∷ ms) m all is = by_test (is_of name message x) is
+found_has P name message (x ∷ ms) m all is = by_test (is_of name message x) (λ there. found_has P name message ms m all.1 there) is
   where
-    by_test : (b : Bool) → (if b then Some x else message_in name message ms) ≡ Some m → P m
-    by_test true here = (let same : x ≡ m = cc in subst P same all.0)
-    by_test false there = found_has P name message ms m all.1 there
+    by_test : (b : Bool) → (message_in name message ms ≡ Some m → P m) → (if b then Some x else message_in name message ms) ≡ Some m → P m
+    by_test true rest here = (let same : x ≡ m = cc in subst P same all.0)
+    by_test false rest there = rest there
 
 -- ---- the place of the name
 

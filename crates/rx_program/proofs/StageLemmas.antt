@@ -46,11 +46,11 @@ no_forms_all {ps = ps} {i = i} s past = sym (s.rest ∙ at_drop_all (of_packages
 -- the package that is told is one of these
 pub found_within : (i : ℕ) (ps : List PackageTree) (found : Found) → of_packages i ps ≡ Some found → found.«package» < i + length ps
 found_within i [] found is = absurd (let no : None ≡ Some found = is in cc)
-found_within i (p ∷ ps) found is = by_first (of_declarations p.decls.items) is
+found_within i (p ∷ ps) found is = by_first (of_declarations p.decls.items) (λ rest. found_within (i + 1) ps found rest) is
   where
-    by_first : (o : Option Unserved) → option_or (found_in i o) (of_packages (i + 1) ps) ≡ Some found → found.«package» < i + (1 + length ps)
-    by_first None is = (let rest = found_within (i + 1) ps found is in omega arith)
-    by_first (Some u) is =
+    by_first : (o : Option Unserved) → (of_packages (i + 1) ps ≡ Some found → found.«package» < i + 1 + length ps) → option_or (found_in i o) (of_packages (i + 1) ps) ≡ Some found → found.«package» < i + length (p ∷ ps)
+    by_first None rest is = (let below = rest is in omega arith)
+    by_first (Some u) rest is =
         let same : found ≡ record { «package» = i; unserved = u } = cc in
         let here : found.«package» ≡ i = ap (λ (f : Found). f.«package») same in
         omega arith

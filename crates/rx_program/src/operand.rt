@@ -1,5 +1,5 @@
 //! The message that is asked for: which one it is, where its name stands, and whether it is served.
-ghost use Rattle.std.specs.Prelude.{◌≡◌, ◌<◌, ◌≤◌, ℕ, length, map, Some, None, IfSome, IfNone, IsTrue, ◌↔◌};
+ghost use Rattle.std.specs.Prelude.{◌≡◌, true, false, ◌<◌, ◌≤◌, ℕ, length, map, Some, None, IfSome, IfNone, IsTrue, ◌↔◌};
 ghost use Rattle.rx_graph.specs.Cycles.{IsLink};
 ghost use Rattle.rx_graph.specs.Elaborated.{IsElaborated};
 ghost use Rattle.rx_graph.specs.Graph.{Arrow, arrow_of, arrows, domains_of, graph_of};
@@ -82,13 +82,24 @@ pub fn second_link(message: &Message) -> Option<Place>
     None
 }
 
+// Whether the link says where its target begins.
+fn has_first(link: &Link) -> bool
+    ensures no_first { result ≡ false → (arrow_of link.now).first ≡ None }
+    ensures first { result ≡ true → (arrow_of link.now).first ≡ None → ⊥ }
+{
+    match &link.first {
+        Some(_) => true,
+        None => false,
+    }
+}
+
 // Whether no link says where its target begins.
 fn has_no_first(message: &Message) -> bool
     ensures { IsTrue result ↔ HasNoFirst (graph_of message.now) }
 {
     let links = message.links.as_slice();
     for index in 0..links.len() {
-        if links[index].first.is_some() {
+        if has_first(&links[index]) {
             return false;
         }
     }

@@ -7,6 +7,7 @@ ghost use Rattle.rx_graph.specs.Elaborated.{IsElaborated};
 ghost use Rattle.rx_graph.specs.Graph.{domains_of, graph_of, spec_of};
 ghost use Rattle.rx_context.specs.Plain.{IsPlain, HasOneLink};
 ghost use Rattle.rx_context.specs.Plan.{StandsFor};
+ghost use Rattle.rx_decode.specs.Decoded.{OverlaysFit};
 ghost use Rattle.rx_spec.specs.Elaboration.{elaborated};
 ghost use Rattle.rx_spec.specs.Laws.{IsSoundSpec, HasNoFirst};
 ghost use Rattle.rx_program.specs.Words.{IsDecode, HaveNoForm};
@@ -29,7 +30,7 @@ use crate::stage::{Found, first_unserved};
 use crate::status::Status;
 use crate::words::{Operand, read_words};
 use rx_context::Plan;
-use rx_decode::{Decoded, decode};
+use rx_decode::{Decoded, decode, overlays_of_plain_messages_fit};
 use rx_graph::{Message, Spec};
 use rx_io::{ReadFault, Shelf, Sink, Source, read_all};
 use rx_spec::{SpecFault, Told, elaborate};
@@ -63,6 +64,7 @@ fn decode_by(
     bytes: &[u8],
 ) -> Result<Decoding, NoMemory>
     requires stands { StandsFor (domains_of spec.now) (graph_of message.now) plan.now }
+    requires overlays { OverlaysFit (domains_of spec.now) (graph_of message.now) }
     requires limit { length bytes.now ≤ 16777215 }
     ensures { IfOk result (DecodesTo (domains_of spec.now) (graph_of message.now) bytes.now) }
 {
@@ -88,6 +90,7 @@ fn decode_plain(
     ensures { IfOk result (DecodesTo (domains_of spec.now) (graph_of message.now) bytes.now) }
 {
     let plan = Plan::make(alloc, message, spec)?;
+    overlays_of_plain_messages_fit(spec, message);
     decode_by(alloc, message, spec, &plan, bytes)
 }
 
