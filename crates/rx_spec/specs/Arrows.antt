@@ -1,7 +1,7 @@
 -- The links of a message, with the conditions and aspects of its text.
 --   both c d                  both conditions, as far as they are written
 --   arrow_of_way name m ps w  link w of message m, where ps is what is written of it
-use Rattle.std.specs.Prelude.{ℕ, true, List, [], ◌∷◌, Option, Some, None, slice_get}
+use Rattle.std.specs.Prelude.{ℕ, true, List, [], Option, Some, None, slice_get}
 use Rattle.std.specs.Option.{option_or}
 use Rattle.rx_syntax.specs.declared.tree.Named.{Named}
 use Rattle.rx_syntax.specs.declared.tree.MessageTree.{MessageTree}
