@@ -1,5 +1,5 @@
 -- Links that are made one for one.
-use Rattle.std.proofs.Common.{◌≡◌, ◌∙◌, sym, ap, refl, ℕ, ◌+◌, ◌<◌, ◌≤◌, List, [], ◌∷◌, ◌++◌, length, get_or, take, map}
+use Rattle.std.proofs.Common.{◌≡◌, ◌∙◌, sym, ap, refl, ℕ, ◌+◌, ◌<◌, List, [], ◌∷◌, ◌++◌, length, get_or, take, map}
 use Rattle.std.proofs.lemmas.List.{take_more, length-map}
 use Rattle.rx_graph.specs.declared.message.Link.{Link}
 use Rattle.rx_graph.specs.Graph.{Arrow, arrow_of, arrows}

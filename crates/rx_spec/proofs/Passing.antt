@@ -1,5 +1,5 @@
 -- Packages in turn, one after the other, and what is told of one.
-use Rattle.std.proofs.Common.{◌≡◌, ◌∙◌, refl, ap, ℕ, ◌+◌, ◌<◌, ◌≤◌, List, [], ◌∷◌, length, get_or, drop, Result, Ok, Err}
+use Rattle.std.proofs.Common.{◌≡◌, ◌∙◌, refl, ℕ, ◌+◌, ◌<◌, ◌≤◌, List, length, get_or, drop, Result, Ok}
 use Rattle.std.proofs.lemmas.List.{at_drop_more, at_drop_all}
 use Rattle.rx_judge.specs.Meaning.{Meaning, ◌>>=◌, Tells, all_stand_from}
 use Rattle.rx_judge.specs.declared.fault.Fault.{Fault}

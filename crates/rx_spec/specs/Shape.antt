@@ -3,7 +3,7 @@
 --   few_stand name m           no expression has more than 256 operators, or 6 at the message's name
 --   ways_of name m             the links of a message, which lead to its fields, do not lead back, and are few
 --   shape_of ts p withs name m    the shape of message m of package p
-use Rattle.std.specs.Prelude.{◌≡◌, ℕ, Bool, true, ◌&&◌, nat_le, List, length, map, Option, Some, None, Ok, if◌then◌else◌}
+use Rattle.std.specs.Prelude.{ℕ, Bool, true, ◌&&◌, nat_le, List, length, map, Option, Some, None, Ok, if◌then◌else◌}
 use Rattle.std.specs.List.{list_all}
 use Rattle.rx_syntax.specs.declared.token.Place.{Place}
 use Rattle.rx_syntax.specs.declared.tree.Named.{Named}
@@ -13,7 +13,7 @@ use Rattle.rx_syntax.specs.declared.tree.AspectTree.TheVariants as aspect
 use Rattle.rx_syntax.specs.declared.tree.ThenTree.{ThenTree}
 use Rattle.rx_syntax.specs.declared.tree.FieldTree.{FieldTree}
 use Rattle.rx_syntax.specs.declared.tree.MessageTree.{MessageTree}
-use Rattle.rx_types.specs.Tree.{Tree, Truth}
+use Rattle.rx_types.specs.Tree.{Truth}
 use Rattle.rx_graph.specs.declared.message.Node.TheVariants as node
 use Rattle.rx_graph.specs.Graph.{Arrow}
 use Rattle.rx_graph.specs.Onward.{onward}

@@ -7,8 +7,7 @@ use Rattle.std.specs.List.{list_any}
 use Rattle.rx_syntax.specs.declared.tree.Named.{Named}
 use Rattle.rx_syntax.specs.declared.tree.FieldTree.{FieldTree}
 use Rattle.rx_types.specs.Tree.{Tree}
-use Rattle.rx_graph.specs.declared.message.Node.{Node}
-use Rattle.rx_graph.specs.declared.message.Node.TheVariants.{Start, At, Null}
+use Rattle.rx_graph.specs.declared.message.Node.TheVariants.{At, Null}
 use Rattle.rx_graph.specs.Graph.{Arrow}
 use Rattle.rx_graph.specs.Checks.{is_node}
 use Rattle.rx_judge.specs.Meaning.{Meaning, refused_at, all_stand_from}

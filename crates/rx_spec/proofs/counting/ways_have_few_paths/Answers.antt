@@ -1,4 +1,4 @@
-use Rattle.std.proofs.Common.{◌≤◌, ◌≡◌, length, arith}
+use Rattle.std.proofs.Common.{◌≡◌, length, arith}
 use Rattle.rx_graph.specs.Graph.{graph_of}
 use Rattle.rx_spec.specs.Shape.{bare_arrow}
 use Rattle.rx_spec.proofs.Made.{as_many}
