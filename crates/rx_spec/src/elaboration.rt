@@ -6,6 +6,7 @@ ghost use Rattle.rx_judge.specs.Meaning.{all_stand_from};
 ghost use Rattle.rx_elab.specs.Types.{types_of, built_in_types};
 ghost use Rattle.rx_spec.specs.Elaboration.{package_stands_in, package_types_in, package_messages_in, through_from, elaborated, TellsOf};
 ghost use Rattle.rx_spec.specs.Kept.{specified, typed};
+ghost use Rattle.rx_spec.specs.Laws.{IsSoundSpec};
 
 use crate::fault::{SpecFault, fault_in};
 use crate::packages::package_messages;
@@ -137,6 +138,7 @@ fn typed(alloc: Global, packages: &[PackageTree]) -> Result<Spec, SpecFault>
 pub fn elaborate(alloc: Global, asked: &[Name], packages: &[PackageTree]) -> Result<Spec, SpecFault>
     ensures meaning { IfOk result (λ s. elaborated asked.now packages.now ≡ Ok (spec_of s)) }
     ensures refusal { IfErr result (λ e. TellsOf e (elaborated asked.now packages.now)) }
+    ensures sound { IfOk result (λ s. IsSoundSpec (spec_of s)) }
 {
     names_stand(alloc, asked, packages)?;
     typed(alloc, packages)
