@@ -1,95 +1,119 @@
 -- From what was found to the answer, over plain texts and input.
-use Rattle.std.proofs.Common.{ℕ, List, Option, Some, None, IfSome, Result, Ok, Err, IfOk, subst}
+use Rattle.std.proofs.Common.{◌≡◌, ℕ, List, Option, Some, None, IfSome, Result, Ok, Err, IfOk, subst, sym, refl}
+use Rattle.std.specs.Prelude.{slice_get}
 use Rattle.rx_io.specs.Shelf.{Texts}
 use Rattle.rx_syntax.specs.declared.token.Place.{Place}
-use Rattle.rx_program.specs.declared.chain.Field.{Field}
-use Rattle.rx_program.specs.declared.closure.Parsed.{Parsed}
-use Rattle.rx_program.specs.declared.package.Package.{Package}
+use Rattle.rx_syntax.specs.declared.tree.PackageTree.{PackageTree}
+use Rattle.rx_types.specs.Domain.{Domain}
+use Rattle.rx_graph.specs.declared.message.Message.{Message}
+use Rattle.rx_graph.specs.declared.spec.Spec.{Spec}
+use Rattle.rx_graph.specs.Graph.{Arrow, Graph, Specified, graph_of, spec_of, domains_of}
+use Rattle.rx_context.specs.Plain.{HasOneLink, IsPlain}
+use Rattle.rx_spec.specs.Laws.{domains_in}
 use Rattle.rx_program.specs.declared.status.Status.{Status}
 use Rattle.rx_program.specs.declared.status.Status.TheVariants.{Done, NotAccepted, Words, Specification, Undecided, InputRefused, SinkFault, Limit, NoMemory}
 use Rattle.rx_program.specs.declared.status.Status.TheVariants.{SourceFault as SourceStatus, ShelfFault as ShelfStatus}
 use Rattle.rx_program.specs.declared.answer.Answer.{Answer}
 use Rattle.rx_program.specs.declared.answer.Answer.TheVariants as answer
-use Rattle.rx_program.specs.declared.supply.Supplied.{Supplied}
-use Rattle.rx_program.specs.declared.supply.Supplied.TheVariants as supplied
-use Rattle.rx_program.specs.Chains.{IsPackageOfChains}
-use Rattle.rx_program.specs.Words.{IsDecode}
-use Rattle.rx_program.specs.Closure.{IsClosed}
+use Rattle.rx_program.specs.declared.words.Operand.{Operand}
+use Rattle.rx_program.specs.declared.closure.Packages.{Packages}
 use Rattle.rx_program.specs.declared.closure.Stop.{Stop}
-use Rattle.rx_program.specs.Stop.{IsParsed, HasParsed, Stops}
-use Rattle.rx_program.specs.Answers.{Supplies, Asks, Answers}
-use Rattle.rx_program.specs.Supply.{IsSupplied}
+use Rattle.rx_program.specs.Words.{IsDecode}
+use Rattle.rx_program.specs.Closure.{IsClosure}
+use Rattle.rx_program.specs.Operand.{IsSecondLink, name_place}
+use Rattle.rx_program.specs.Stop.{Stops}
 use Rattle.rx_program.specs.Input.{IsReadAs}
+use Rattle.rx_program.specs.Request.{Request, Finds, Serves, AnswersTo, request_of}
+use Rattle.rx_program.specs.Answers.{Asks, Answers}
 use Rattle.rx_program.specs.Outcome.{Prints, Outcome}
-use Rattle.rx_program.proofs.ClosureLemmas.{parsed_tree}
-use Rattle.rx_program.proofs.OneText.{text_same}
+use Rattle.rx_program.proofs.OperandLemmas.{domains_same}
 
--- what the package that was read has of a message, whatever its text
-abbrev pub HasOfMessage : Parsed → List ℕ → List ℕ → Supplied → Type 0
-HasOfMessage first name message s = (text : List ℕ) → IsParsed text first → IsSupplied text first.tree.header.name.place name message s
+-- ---- what packages answer
 
--- a package that was read, of which what it has of the message answers the words
-module _ (texts : Texts) (left name message : List ℕ) (first : Parsed) (has : HasParsed texts name first) (closed : IsClosed texts name) where
-  later_answers : (place : Place) → HasOfMessage first name message (supplied.Later place) → (words : List (List ℕ)) → IsDecode words name message → Answers words texts left (answer.Later name place)
-  later_answers place s words is =
-      ((message, is), closed, record { tree = first.tree; has = parsed_tree texts name first has; at = (s has.text has.is).0; is_none = none })
-    where
-      none : (p : Package) → Supplies texts name p → ⊥
-      none p other =
-          let same = text_same texts name other.text has.text other.has.found has.has.found in
-          (s has.text has.is).1 p (subst (λ (t : List ℕ). IsPackageOfChains t name p) same other.is)
+-- an answer to whatever input
+pub told_any : (input : Option (List ℕ)) (r : Request) (a : Answer) → ((left : List ℕ) → AnswersTo r left a) → IfSome input (λ left. AnswersTo r left a)
+told_any None r a answers = tt
+told_any (Some left) r a answers = answers left
 
-  no_message_answers : HasOfMessage first name message supplied.NoMessage → (words : List (List ℕ)) → IsDecode words name message → Answers words texts left (answer.NoMessage name message)
-  no_message_answers s words is =
-      let found = s has.text has.is in
-      (is, closed, record { «package» = found.0; supplied = record { text = has.text; has = has.has; is = found.1 }; lacks = found.2 })
+pub told_if : {E : Type 0} (input : Option (List ℕ)) (r : Request) (res : Result Answer E) → IfOk res (λ a. (left : List ℕ) → AnswersTo r left a) → IfOk res (λ a. IfSome input (λ left. AnswersTo r left a))
+told_if input r (Err e) answers = tt
+told_if input r (Ok a) answers = told_any input r a answers
 
-  asks_for : (fields : List Field) → HasOfMessage first name message (supplied.Fields fields) → (words : List (List ℕ)) → IsDecode words name message → Asks words texts fields
-  asks_for fields s words is =
-      let found = s has.text has.is in
-      record { name = name; message = message; words_are = is; closed = closed; «package» = found.0; supplied = record { text = has.text; has = has.has; is = found.1 }; declared = found.2 }
+-- a node has two links
+pub answers_branching : (input : Option (List ℕ)) (r : Request) (s : Specified) (m : Graph) (place : Place) → Finds r s m → ((i : ℕ) × (link : Arrow) × IsSecondLink m i link × (place ≡ link.place))
+    → IfSome input (λ left. AnswersTo r left (answer.Branching r.name place))
+answers_branching input r s m place finds second =
+    told_any input r (answer.Branching r.name place) (λ left. (refl, record { spec = s; graph = m; finds = finds; at = second.0; link = second.1; second = second.2; place_is = second.3 }))
 
-answers_in : (words : List (List ℕ)) (texts : Texts) (left : List ℕ) (fields : List Field) (a : Answer) → Asks words texts fields → IsReadAs fields left a → Answers words texts left a
-answers_in words texts left fields answer.Usage asks read = absurd read
-answers_in words texts left fields answer.ShelfFault asks read = absurd read
-answers_in words texts left fields (answer.NoPackage name) asks read = absurd read
-answers_in words texts left fields (answer.TextLimit name) asks read = absurd read
-answers_in words texts left fields (answer.Refused name refusal) asks read = absurd read
-answers_in words texts left fields answer.PackageLimit asks read = absurd read
-answers_in words texts left fields (answer.Later name place) asks read = absurd read
-answers_in words texts left fields (answer.NoMessage name message) asks read = absurd read
-answers_in words texts left fields answer.SourceFault asks read = (fields, asks)
-answers_in words texts left fields answer.InputLimit asks read = ((fields, asks), read)
-answers_in words texts left fields (answer.Input decoding) asks read = (fields, asks, read.0, read.1)
+-- the message is not plain
+pub answers_unchecked : (input : Option (List ℕ)) (r : Request) (spec : Spec) (m : Graph) (place : Place) → Finds r (spec_of spec) m → HasOneLink m → (IsPlain (domains_of spec) m → ⊥)
+    → ((tree : PackageTree) × (slice_get r.trees 0 ≡ Some tree) × (place ≡ name_place tree r.message)) → IfSome input (λ left. AnswersTo r left (answer.Unchecked r.name place))
+answers_unchecked input r spec m place finds one not_plain there =
+    told_any input r (answer.Unchecked r.name place) (λ left. (
+      refl,
+      record {
+        spec = spec_of spec;
+        graph = m;
+        finds = finds;
+        one_link = one;
+        not_plain = λ plain. not_plain (subst (λ (ds : List Domain). IsPlain ds m) (domains_same spec) plain);
+        tree = there.0;
+        first = there.1;
+        place_is = there.2;
+      },
+    ))
 
--- an answer to the words that ask for a message of the package that was read, whatever the shelf
-abbrev pub AnswersAll : Parsed → List ℕ → List ℕ → Option (List ℕ) → Answer → Type 0
-AnswersAll first name message input a = IfSome input (λ left. (texts : Texts) (words : List (List ℕ)) → HasParsed texts name first → IsClosed texts name → IsDecode words name message → Answers words texts left a)
+input_answers : (r : Request) (s : Specified) (m : Graph) (left : List ℕ) (a : Answer) → Serves r s m → IsReadAs (domains_in s) m left a → AnswersTo r left a
+input_answers r s m left answer.Usage serves read = absurd read
+input_answers r s m left answer.ShelfFault serves read = absurd read
+input_answers r s m left (answer.NoPackage name) serves read = absurd read
+input_answers r s m left (answer.TextLimit name) serves read = absurd read
+input_answers r s m left (answer.Refused name refusal) serves read = absurd read
+input_answers r s m left answer.PackageLimit serves read = absurd read
+input_answers r s m left (answer.Unserved file unserved) serves read = absurd read
+input_answers r s m left (answer.Broken file breach) serves read = absurd read
+input_answers r s m left (answer.NoMessage name message) serves read = absurd read
+input_answers r s m left (answer.Branching name place) serves read = absurd read
+input_answers r s m left (answer.Unchecked name place) serves read = absurd read
+input_answers r s m left answer.SourceFault serves read = (s, m, serves)
+input_answers r s m left answer.InputLimit serves read = ((s, m, serves), read)
+input_answers r s m left (answer.Input decoding) serves read = (s, m, serves, read.0, read.1)
 
-pub answers_later : (input : Option (List ℕ)) (name message : List ℕ) (first : Parsed) (place : Place) → HasOfMessage first name message (supplied.Later place) → AnswersAll first name message input (answer.Later name place)
-answers_later None name message first place s = tt
-answers_later (Some left) name message first place s = λ texts words has closed is. later_answers texts left name message first has closed place s words is
+-- what the input is of a plain message
+pub answers_input : {E : Type 0} (input : Option (List ℕ)) (r : Request) (spec : Spec) (m : Graph) (res : Result Answer E) → Finds r (spec_of spec) m → IsPlain (domains_of spec) m
+    → IfOk res (λ a. IfSome input (λ left. IsReadAs (domains_of spec) m left a)) → IfOk res (λ a. IfSome input (λ left. AnswersTo r left a))
+answers_input input r spec m (Err e) finds plain read = tt
+answers_input None r spec m (Ok a) finds plain read = tt
+answers_input (Some left) r spec m (Ok a) finds plain read =
+    let serves : Serves r (spec_of spec) m = record { finds = finds; plain = subst (λ (ds : List Domain). IsPlain ds m) (sym (domains_same spec)) plain } in
+    input_answers r (spec_of spec) m left a serves (subst (λ (ds : List Domain). IsReadAs ds m left a) (sym (domains_same spec)) read)
 
-pub answers_no_message : (input : Option (List ℕ)) (name message : List ℕ) (first : Parsed) → HasOfMessage first name message supplied.NoMessage → AnswersAll first name message input (answer.NoMessage name message)
-answers_no_message None name message first s = tt
-answers_no_message (Some left) name message first s = λ texts words has closed is. no_message_answers texts left name message first has closed s words is
+-- ---- answers to words
 
--- what the input is of the fields that the package has answers the words
-pub answers_fields : {E : Type 0} (input : Option (List ℕ)) (name message : List ℕ) (first : Parsed) (fields : List Field) (r : Result Answer E) → HasOfMessage first name message (supplied.Fields fields)
-    → IfOk r (λ a. IfSome input (λ left. IsReadAs fields left a)) → IfOk r (AnswersAll first name message input)
-answers_fields input name message first fields (Err e) s read = tt
-answers_fields None name message first fields (Ok a) s read = tt
-answers_fields (Some left) name message first fields (Ok a) s read =
-    λ texts words has closed is. answers_in words texts left fields a (asks_for texts left name message first has closed fields s words is) read
+answers_in : (words : List (List ℕ)) (texts : Texts) (left : List ℕ) (r : Request) (a : Answer) → Asks words texts r → AnswersTo r left a → Answers words texts left a
+answers_in words texts left r answer.Usage asks is = absurd is
+answers_in words texts left r answer.ShelfFault asks is = absurd is
+answers_in words texts left r (answer.NoPackage name) asks is = absurd is
+answers_in words texts left r (answer.TextLimit name) asks is = absurd is
+answers_in words texts left r (answer.Refused name refusal) asks is = absurd is
+answers_in words texts left r answer.PackageLimit asks is = absurd is
+answers_in words texts left r (answer.Unserved file unserved) asks is = (r, asks, is)
+answers_in words texts left r (answer.Broken file breach) asks is = (r, asks, is)
+answers_in words texts left r (answer.NoMessage name message) asks is = (r, asks, is)
+answers_in words texts left r (answer.Branching name place) asks is = (r, asks, is)
+answers_in words texts left r (answer.Unchecked name place) asks is = (r, asks, is)
+answers_in words texts left r answer.SourceFault asks is = (r, asks, is)
+answers_in words texts left r answer.InputLimit asks is = (r, asks, is)
+answers_in words texts left r (answer.Input decoding) asks is = (r, asks, is)
 
--- the answer of the package that was read, over what the shelf tells
-pub answered : {E : Type 0} (told : Option Texts) (input : Option (List ℕ)) (name message : List ℕ) (first : Parsed) (r : Result Answer E)
-    → IfSome told (λ texts. HasParsed texts name first) → IfSome told (λ texts. IsClosed texts name) → IfOk r (AnswersAll first name message input)
-    → IfOk r (λ a. IfSome told (λ texts. IfSome input (λ left. (words : List (List ℕ)) → IsDecode words name message → Answers words texts left a)))
-answered told input name message first (Err e) has closed answers = tt
-answered None input name message first (Ok a) has closed answers = tt
-answered (Some texts) None name message first (Ok a) has closed answers = tt
-answered (Some texts) (Some left) name message first (Ok a) has closed answers = λ words is. answers texts words has closed is
+-- the answer of the packages that were read, over what the shelf tells
+pub answered : {E : Type 0} (told : Option Texts) (input : Option (List ℕ)) (o : Operand) (p : Packages) (res : Result Answer E) → IfSome told (λ texts. IsClosure texts o.name p.asked.items p.trees.items)
+    → IfOk res (λ a. IfSome input (λ left. AnswersTo (request_of o p) left a))
+    → IfOk res (λ a. IfSome told (λ texts. IfSome input (λ left. (words : List (List ℕ)) → IsDecode words o.name o.message → Answers words texts left a)))
+answered told input o p (Err e) closure answers = tt
+answered None input o p (Ok a) closure answers = tt
+answered (Some texts) None o p (Ok a) closure answers = tt
+answered (Some texts) (Some left) o p (Ok a) closure answers = λ words is. answers_in words texts left (request_of o p) a (record { words_are = is; closure = closure }) answers
 
 outcome_in : (words : List (List ℕ)) (texts : Texts) (left : List ℕ) (a : Answer) (status : Status) (written : List ℕ) → Answers words texts left a → Prints a status written → Outcome words texts left status written
 outcome_in words texts left a Done written answers prints = (a, answers, prints)

@@ -3,7 +3,9 @@ use Rattle.std.proofs.Common.{◌≡◌, ℕ, ◌+◌, ◌<◌, ◌≤◌, ◌�
 use Rattle.std.specs.Prelude.{slice_get, IsSomeAnd}
 use Rattle.std.specs.List.{list_any}
 use Rattle.std.specs.Str.{str_to_ascii_lowercase}
-use Rattle.std.proofs.lemmas.List.{take_more}
+use Rattle.std.proofs.lemmas.List.{take_more, take-append-le}
+use Rattle.std.proofs.lemmas.Option.{get_or_from_slice_get, slice_get_within}
+use Rattle.std.proofs.Math.Seq.{take-length}
 use mathlib.Core.List.{map-append}
 use Rattle.rx_io.specs.declared.shelf.Fetched.{Fetched}
 use Rattle.rx_io.specs.declared.shelf.Fetched.TheVariants.{Text, Absent, TooLong}
@@ -20,12 +22,12 @@ use Rattle.rx_grammar.specs.Grammar.{rule, plain_file}
 use Rattle.rx_grammar.specs.Syntax.{IsSyntaxFault}
 use Rattle.rx_program.specs.Names.{is_same}
 use Rattle.rx_program.specs.declared.refusal.Refusal.{Refusal}
-use Rattle.rx_program.specs.declared.closure.Parsed.{Parsed}
+use Rattle.rx_syntax.specs.declared.tree.PackageTree.{PackageTree}
 use Rattle.rx_program.specs.declared.closure.Stop.{Stop}
 use Rattle.rx_program.specs.declared.closure.Stop.TheVariants.{Fault, NoPackage, TextLimit, Refused, PackageLimit, NoMemory}
 use Rattle.rx_program.specs.Refusals.{lexer_refusal, parser_refusal}
-use Rattle.rx_program.specs.Closure.{package_limit, HasNone, HasLong, HasText, IsRefused, by_lexer, by_parser, HasRefused, HasTree, withs_of, added_one, added, IsStep, passes, reads, Walked, begins, goes_on, IsClosed, Reaches}
-use Rattle.rx_program.specs.Stop.{IsParsed, HasParsed, RefusedFor, IsOfLexer, IsOfParser, IsUnread, IsTooMany, Stops, StopsAt}
+use Rattle.rx_program.specs.Closure.{package_limit, HasNone, HasLong, HasText, IsRefused, by_lexer, by_parser, IsTree, HasRefused, HasTree, withs_of, added_one, added, IsStep, passes, reads, Walked, begins, goes_on, Reaches, AreFetched, no_packages, one_absent, one_fetched, IsClosure, ArePaired}
+use Rattle.rx_program.specs.Stop.{RefusedFor, IsOfLexer, IsOfParser, IsUnread, IsTooMany, Stops, StopsAt}
 
 -- a refusal of one kind is one of another
 pub refused_for : (name : List ℕ) (P Q : Refusal → Type 0) (stop : Stop) → ((refusal : Refusal) → P refusal → Q refusal) → RefusedFor name P stop → RefusedFor name Q stop
@@ -52,11 +54,6 @@ lexer_refuses text refusal is = by_lexer is.1 is.2
 
 pub parser_refuses : (text : List ℕ) (tokens : List Token) (last : Place) → AreTokens text tokens last → (refusal : Refusal) → IsOfParser tokens last refusal → IsRefused text refusal
 parser_refuses text tokens last are refusal is = by_parser are is.1 is.2
-
--- a package that was read has its tree
-pub parsed_tree : (texts : Texts) (name : List ℕ) (parsed : Parsed) → HasParsed texts name parsed → HasTree texts name parsed.tree
-parsed_tree texts name parsed p =
-    record { text = p.text; has = p.has; is = record { tokens = parsed.tokens.items.items; last = parsed.tokens.end; are = p.is.are; is = p.is.is; fits = p.is.fits } }
 
 -- names put at the end, and one more
 pub added-push : (names more : List (List ℕ)) (name : List ℕ) → added names (more ++ name ∷ []) ≡ added_one (added names more) name
@@ -88,14 +85,14 @@ unread_stops texts first name (Refused other refusal) reached is = (subst (Reach
 unread_stops texts first name PackageLimit reached is = absurd is
 unread_stops texts first name NoMemory reached is = tt
 
-pub crowd_stops : (texts : Texts) (first name : List ℕ) (parsed : Parsed) (stop : Stop) (reached : Reaches texts first name) → HasParsed texts name parsed
-    → IsTooMany (length (added reached.names (withs_of parsed.tree))) stop → Stops texts first stop
-crowd_stops texts first name parsed Fault reached has is = absurd is
-crowd_stops texts first name parsed NoPackage reached has is = absurd is
-crowd_stops texts first name parsed (TextLimit other) reached has is = absurd is
-crowd_stops texts first name parsed (Refused other refusal) reached has is = absurd is
-crowd_stops texts first name parsed PackageLimit reached has is = record { name = name; reached = reached; tree = parsed.tree; has = parsed_tree texts name parsed has; more = is }
-crowd_stops texts first name parsed NoMemory reached has is = tt
+pub crowd_stops : (texts : Texts) (first name : List ℕ) (tree : PackageTree) (stop : Stop) (reached : Reaches texts first name) → HasTree texts name tree
+    → IsTooMany (length (added reached.names (withs_of tree))) stop → Stops texts first stop
+crowd_stops texts first name tree Fault reached has is = absurd is
+crowd_stops texts first name tree NoPackage reached has is = absurd is
+crowd_stops texts first name tree (TextLimit other) reached has is = absurd is
+crowd_stops texts first name tree (Refused other refusal) reached has is = absurd is
+crowd_stops texts first name tree PackageLimit reached has is = record { name = name; reached = reached; tree = tree; has = has; more = is }
+crowd_stops texts first name tree NoMemory reached has is = tt
 
 -- the walk has come to package `k` of the list
 abbrev pub reaches_at : (texts : Texts) (first name : List ℕ) (k : ℕ) (names : List (List ℕ)) → Walked texts first k names → slice_get names k ≡ Some name → Reaches texts first name
@@ -162,9 +159,9 @@ long_by (Some texts) name lower text fetched stop same is told_long found =
     subst (IsUnread texts name) (sym told_long) (refl, long)
 
 -- what was read of the text, the shelf has of the package
-pub parsed_by : (told : Option Texts) (name text : List ℕ) (parsed : Parsed) → IfSome told (λ texts. HasText texts name text) → IsParsed text parsed → IfSome told (λ texts. HasParsed texts name parsed)
-parsed_by None name text parsed has is = tt
-parsed_by (Some texts) name text parsed has is = record { text = text; has = has; is = is }
+pub read_by : (told : Option Texts) (name text : List ℕ) (tree : PackageTree) → IfSome told (λ texts. HasText texts name text) → IsTree text tree → IfSome told (λ texts. HasTree texts name tree)
+read_by None name text tree has is = tt
+read_by (Some texts) name text tree has is = record { text = text; has = has; is = is }
 
 unread_in : (texts : Texts) (name text : List ℕ) (stop : Stop) → HasText texts name text → RefusedFor name (IsRefused text) stop → IsUnread texts name stop
 unread_in texts name text Fault has is = absurd is
@@ -179,30 +176,34 @@ unread_by None name text stop has is = tt
 unread_by (Some texts) name text stop has is = unread_in texts name text stop has is
 
 -- a step of the walk, and where it ends
-pub step_passes : (told : Option Texts) (k : ℕ) (names : List (List ℕ)) (name : List ℕ) → 0 < k → slice_get names k ≡ Some name → IfSome told (λ texts. HasNone texts name) → IfSome told (λ texts. IsStep texts k names names)
-step_passes None k names name after there none = tt
-step_passes (Some texts) k names name after there none = passes after there none
+pub step_passes : (told : Option Texts) (k : ℕ) (names : List (List ℕ)) → 0 < k → IfSome told (λ texts. (name : List ℕ) × (slice_get names k ≡ Some name) × HasNone texts name) → IfSome told (λ texts. IsStep texts k names names)
+step_passes None k names after none = tt
+step_passes (Some texts) k names after none = passes after none.1 none.2
 
-pub step_reads : (told : Option Texts) (k : ℕ) (names more : List (List ℕ)) (name : List ℕ) (parsed : Parsed) → slice_get names k ≡ Some name → IfSome told (λ texts. HasParsed texts name parsed)
-    → more ≡ added names (withs_of parsed.tree) → length more ≤ package_limit → IfSome told (λ texts. IsStep texts k names more)
-step_reads None k names more name parsed there has is few = tt
-step_reads (Some texts) k names more name parsed there has is few =
-    let fewer : length (added names (withs_of parsed.tree)) ≤ package_limit = rw is at few in
-    subst (λ (l : List (List ℕ)). IsStep texts k names l) (sym is) (reads there (parsed_tree texts name parsed has) fewer)
+pub step_reads : (told : Option Texts) (k : ℕ) (names more : List (List ℕ)) (name : List ℕ) (tree : PackageTree) → slice_get names k ≡ Some name → IfSome told (λ texts. HasTree texts name tree)
+    → more ≡ added names (withs_of tree) → length more ≤ package_limit → IfSome told (λ texts. IsStep texts k names more)
+step_reads None k names more name tree there has is few = tt
+step_reads (Some texts) k names more name tree there has is few =
+    let fewer : length (added names (withs_of tree)) ≤ package_limit = rw is at few in
+    subst (λ (l : List (List ℕ)). IsStep texts k names l) (sym is) (reads there has fewer)
 
 pub stops_unread : (told : Option Texts) (k : ℕ) (names : List (List ℕ)) (name : List ℕ) (stop : Stop) → slice_get names k ≡ Some name → IfSome told (λ texts. IsUnread texts name stop)
     → IfSome told (λ texts. StopsAt texts k names stop)
 stops_unread None k names name stop there is = tt
 stops_unread (Some texts) k names name stop there is = λ first walked. unread_stops texts first name stop (reaches_at texts first name k names walked there) is
 
-pub stops_crowded : (told : Option Texts) (k : ℕ) (names : List (List ℕ)) (name : List ℕ) (parsed : Parsed) (stop : Stop) → slice_get names k ≡ Some name → IfSome told (λ texts. HasParsed texts name parsed)
-    → IsTooMany (length (added names (withs_of parsed.tree))) stop → IfSome told (λ texts. StopsAt texts k names stop)
-stops_crowded None k names name parsed stop there has is = tt
-stops_crowded (Some texts) k names name parsed stop there has is = λ first walked. crowd_stops texts first name parsed stop (reaches_at texts first name k names walked there) has is
+pub stops_crowded : (told : Option Texts) (k : ℕ) (names : List (List ℕ)) (name : List ℕ) (tree : PackageTree) (stop : Stop) → slice_get names k ≡ Some name → IfSome told (λ texts. HasTree texts name tree)
+    → IsTooMany (length (added names (withs_of tree))) stop → IfSome told (λ texts. StopsAt texts k names stop)
+stops_crowded None k names name tree stop there has is = tt
+stops_crowded (Some texts) k names name tree stop there has is = λ first walked. crowd_stops texts first name tree stop (reaches_at texts first name k names walked there) has is
 
 -- what was walked from a list of the first package and the names that it gives
 abbrev pub IsWalkedFrom : Texts → List (List ℕ) → ℕ → List (List ℕ) → Type 0
 IsWalkedFrom texts start k names = (first : List ℕ) → Walked texts first 1 start → Walked texts first k names
+
+-- what was fetched from a list of names on
+abbrev pub AreFetchedFrom : Texts → List (List ℕ) → List (List ℕ) → List PackageTree → List (List ℕ) → List (List ℕ) → List PackageTree → Type 0
+AreFetchedFrom texts start one trees names asked more = AreFetched texts start one trees → AreFetched texts names asked more
 
 pub same_on : (told now later : Option Texts) → SameTexts told now → SameTexts now later → SameTexts told later
 same_on None now later same same' = tt
@@ -222,41 +223,45 @@ walk_stops (Some texts) now start names k stop same walked stops =
     let here : StopsAt texts k names stop = rw same at stops in
     λ first from. here first (walked first from)
 
-pub walk_closes : (told : Option Texts) (start names : List (List ℕ)) (k : ℕ) → k ≡ length names → IfSome told (λ texts. IsWalkedFrom texts start k names)
-    → IfSome told (λ texts. (first : List ℕ) → Walked texts first 1 start → IsClosed texts first)
-walk_closes None start names k all walked = tt
-walk_closes (Some texts) start names k all walked = λ first from. record { names = names; walked = subst (λ n. Walked texts first n names) all (walked first from) }
-
--- a name that is put at the end of no names stands alone
-pub only_one : (none : List (List ℕ)) (name : List ℕ) (after : List (List ℕ)) → none ≡ [] → after ≡ none ++ name ∷ [] → after ≡ name ∷ []
-only_one none name after empty is = is ∙ ap (λ (l : List (List ℕ)). l ++ name ∷ []) empty
+pub walk_closes : (told : Option Texts) (start names one asked : List (List ℕ)) (trees more : List PackageTree) (k : ℕ) → k ≡ length names → IfSome told (λ texts. IsWalkedFrom texts start k names)
+    → IfSome told (λ texts. AreFetchedFrom texts (take 1 start) one trees (take k names) asked more)
+    → IfSome told (λ texts. (first : List ℕ) → Walked texts first 1 start → AreFetched texts (take 1 start) one trees → IsClosure texts first asked more)
+walk_closes None start names one asked trees more k all walked fetched = tt
+walk_closes (Some texts) start names one asked trees more k all walked fetched =
+    let whole : take k names ≡ names = ap (λ n. take n names) all ∙ take-length names in
+    λ first from has. record {
+      names = names;
+      walked = subst (λ n. Walked texts first n names) all (walked first from);
+      fetched = subst (λ (l : List (List ℕ)). AreFetched texts l asked more) whole (fetched has);
+    }
 
 -- the first package
-pub begun : (told : Option Texts) (name : List ℕ) (one names : List (List ℕ)) (parsed : Parsed) → one ≡ name ∷ [] → IfSome told (λ texts. HasParsed texts name parsed)
-    → names ≡ added one (withs_of parsed.tree) → length names ≤ package_limit → IfSome told (λ texts. Walked texts name 1 names)
-begun None name one names parsed is has list few = tt
-begun (Some texts) name one names parsed is has list few =
-    let here : names ≡ added (name ∷ []) (withs_of parsed.tree) = rw is at list in
-    let fewer : length (added (name ∷ []) (withs_of parsed.tree)) ≤ package_limit = rw here at few in
-    subst (λ (l : List (List ℕ)). Walked texts name 1 l) (sym here) (goes_on begins (reads refl (parsed_tree texts name parsed has) fewer))
+pub begun : (told : Option Texts) (name : List ℕ) (one names : List (List ℕ)) (tree : PackageTree) → one ≡ name ∷ [] → IfSome told (λ texts. HasTree texts name tree)
+    → names ≡ added one (withs_of tree) → length names ≤ package_limit → IfSome told (λ texts. Walked texts name 1 names)
+begun None name one names tree is has list few = tt
+begun (Some texts) name one names tree is has list few =
+    let here : names ≡ added (name ∷ []) (withs_of tree) = rw is at list in
+    let fewer : length (added (name ∷ []) (withs_of tree)) ≤ package_limit = rw here at few in
+    subst (λ (l : List (List ℕ)). Walked texts name 1 l) (sym here) (goes_on begins (reads refl has fewer))
 
 pub begin_unread : (told : Option Texts) (name : List ℕ) (stop : Stop) → IfSome told (λ texts. IsUnread texts name stop) → IfSome told (λ texts. Stops texts name stop)
 begin_unread None name stop is = tt
 begin_unread (Some texts) name stop is = unread_stops texts name name stop (reaches_at texts name name 0 (name ∷ []) begins refl) is
 
-pub begin_crowded : (told : Option Texts) (name : List ℕ) (one : List (List ℕ)) (parsed : Parsed) (stop : Stop) → one ≡ name ∷ [] → IfSome told (λ texts. HasParsed texts name parsed)
-    → IsTooMany (length (added one (withs_of parsed.tree))) stop → IfSome told (λ texts. Stops texts name stop)
-begin_crowded None name one parsed stop is has many = tt
-begin_crowded (Some texts) name one parsed stop is has many =
-    crowd_stops texts name name parsed stop (reaches_at texts name name 0 (name ∷ []) begins refl) has (rw is at many)
+pub begin_crowded : (told : Option Texts) (name : List ℕ) (one : List (List ℕ)) (tree : PackageTree) (stop : Stop) → one ≡ name ∷ [] → IfSome told (λ texts. HasTree texts name tree)
+    → IsTooMany (length (added one (withs_of tree))) stop → IfSome told (λ texts. Stops texts name stop)
+begin_crowded None name one tree stop is has many = tt
+begin_crowded (Some texts) name one tree stop is has many =
+    crowd_stops texts name name tree stop (reaches_at texts name name 0 (name ∷ []) begins refl) has (rw is at many)
 
 -- the walk from the first package on
-pub closes : (told now : Option Texts) (name : List ℕ) (names : List (List ℕ)) → SameTexts told now → IfSome told (λ texts. Walked texts name 1 names)
-    → IfSome now (λ texts. (first : List ℕ) → Walked texts first 1 names → IsClosed texts first) → IfSome told (λ texts. IsClosed texts name)
-closes None now name names same walked closed = tt
-closes (Some texts) now name names same walked closed =
-    let here : (first : List ℕ) → Walked texts first 1 names → IsClosed texts first = rw same at closed in
-    here name walked
+pub closes : (told now : Option Texts) (name : List ℕ) (names one asked : List (List ℕ)) (trees more : List PackageTree) → SameTexts told now → IfSome told (λ texts. Walked texts name 1 names)
+    → IfSome told (λ texts. AreFetched texts (take 1 names) one trees)
+    → IfSome now (λ texts. (first : List ℕ) → Walked texts first 1 names → AreFetched texts (take 1 names) one trees → IsClosure texts first asked more) → IfSome told (λ texts. IsClosure texts name asked more)
+closes None now name names one asked trees more same walked has closed = tt
+closes (Some texts) now name names one asked trees more same walked has closed =
+    let here : (first : List ℕ) → Walked texts first 1 names → AreFetched texts (take 1 names) one trees → IsClosure texts first asked more = rw same at closed in
+    here name walked has
 
 pub close_stops : (told now : Option Texts) (name : List ℕ) (names : List (List ℕ)) (stop : Stop) → SameTexts told now → IfSome told (λ texts. Walked texts name 1 names)
     → IfSome now (λ texts. StopsAt texts 1 names stop) → IfSome told (λ texts. Stops texts name stop)
@@ -264,3 +269,61 @@ close_stops None now name names stop same walked stops = tt
 close_stops (Some texts) now name names stop same walked stops =
     let here : StopsAt texts 1 names stop = rw same at stops in
     here name walked
+
+-- ---- packages that were fetched
+
+added_one-front : (names : List (List ℕ)) (name : List ℕ) (k : ℕ) → k ≤ length names → take k (added_one names name) ≡ take k names
+added_one-front names name k within = by_test (list_any (λ other. is_same other name) names)
+  where
+    by_test : (b : Bool) → take k (if b then names else names ++ name ∷ []) ≡ take k names
+    by_test true = refl
+    by_test false = take-append-le k names (name ∷ []) within
+
+-- names that are put at the end leave the front as it was
+added-kept : (names more : List (List ℕ)) (k : ℕ) → k ≤ length names → take k (added names more) ≡ take k names
+added-kept names [] k within = refl
+added-kept names (n ∷ more) k within =
+    let longer = added_one-longer names n in
+    added-kept (added_one names n) more k (omega arith) ∙ added_one-front names n k within
+
+-- the front with one name more
+front_next : (names : List (List ℕ)) (k : ℕ) (name : List ℕ) → slice_get names k ≡ Some name → take (k + 1) names ≡ take k names ++ name ∷ []
+front_next names k name there =
+    let within = slice_get_within names k name there in
+    take_more names k name within ∙ ap (λ n. take k names ++ n ∷ []) (get_or_from_slice_get names k name name there)
+
+pub fetches_none : (told : Option Texts) (names asked : List (List ℕ)) (trees : List PackageTree) (k : ℕ) → IfSome told (λ texts. (name : List ℕ) × (slice_get names k ≡ Some name) × HasNone texts name)
+    → IfSome told (λ texts. AreFetched texts (take k names) asked trees → AreFetched texts (take (k + 1) names) asked trees)
+fetches_none None names asked trees k none = tt
+fetches_none (Some texts) names asked trees k none = λ has. subst (λ (l : List (List ℕ)). AreFetched texts l asked trees) (sym (front_next names k none.0 none.1)) (one_absent none.0 has none.2)
+
+pub fetches_one : (told : Option Texts) (names after asked asked' : List (List ℕ)) (trees trees' : List PackageTree) (k : ℕ) (name : List ℕ) (tree : PackageTree) → slice_get names k ≡ Some name
+    → IfSome told (λ texts. HasTree texts name tree) → after ≡ added names (withs_of tree) → asked' ≡ asked ++ name ∷ [] → trees' ≡ trees ++ tree ∷ []
+    → IfSome told (λ texts. AreFetched texts (take k names) asked trees → AreFetched texts (take (k + 1) after) asked' trees')
+fetches_one None names after asked asked' trees trees' k name tree there has list one other = tt
+fetches_one (Some texts) names after asked asked' trees trees' k name tree there has list one other =
+    let within = slice_get_within names k name there in
+    let kept : take (k + 1) after ≡ take k names ++ name ∷ [] = ap (take (k + 1)) list ∙ added-kept names (withs_of tree) (k + 1) (omega arith) ∙ front_next names k name there in
+    λ before. rw (kept, one, other) (one_fetched before has)
+
+pub fetches_first : (told : Option Texts) (names asked : List (List ℕ)) (trees : List PackageTree) (name : List ℕ) (tree : PackageTree) → IfSome told (λ texts. HasTree texts name tree)
+    → names ≡ added (name ∷ []) (withs_of tree) → asked ≡ name ∷ [] → trees ≡ tree ∷ [] → IfSome told (λ texts. AreFetched texts (take 1 names) asked trees)
+fetches_first None names asked trees name tree has list one other = tt
+fetches_first (Some texts) names asked trees name tree has list one other =
+    let kept : take 1 names ≡ name ∷ [] = ap (take 1) list ∙ added-kept (name ∷ []) (withs_of tree) 1 (omega arith) in
+    rw (kept, one, other) (one_fetched no_packages has)
+
+pub fetches_on : (told now : Option Texts) (start one names asked more asked' : List (List ℕ)) (trees trees' trees'' : List PackageTree) → SameTexts told now
+    → IfSome told (λ texts. AreFetchedFrom texts start one trees names asked trees') → IfSome now (λ texts. AreFetched texts names asked trees' → AreFetched texts more asked' trees'')
+    → IfSome told (λ texts. AreFetchedFrom texts start one trees more asked' trees'')
+fetches_on None now start one names asked more asked' trees trees' trees'' same before next = tt
+fetches_on (Some texts) now start one names asked more asked' trees trees' trees'' same before next =
+    let here : AreFetched texts names asked trees' → AreFetched texts more asked' trees'' = rw same at next in
+    λ has. here (before has)
+
+-- one package more, with its name
+pub paired_more : (asked asked' : List (List ℕ)) (trees trees' : List PackageTree) (name : List ℕ) (tree : PackageTree) → asked' ≡ asked ++ name ∷ [] → trees' ≡ trees ++ tree ∷ [] → length asked ≡ length trees → ArePaired asked' trees'
+paired_more asked asked' trees trees' name tree one other same = rw (one, other) (record { some = simp length-append (omega arith); same = simp length-append (omega arith) })
+
+pub paired_first : (asked : List (List ℕ)) (trees : List PackageTree) (name : List ℕ) (tree : PackageTree) → asked ≡ name ∷ [] → trees ≡ tree ∷ [] → ArePaired asked trees
+paired_first asked trees name tree one other = rw (one, other) (record { some = omega arith; same = refl })

@@ -1,29 +1,37 @@
--- At most one answer belongs to words, texts and input.
-use Rattle.std.proofs.Common.{◌≡◌, ℕ, ◌<◌, ◌≤◌, ◌⊎◌, inl, inr, true, false, List, [], ◌∷◌, length, refl, sym, ap, ◌∙◌, subst, arith}
+-- A command that ends before its packages are all read has one answer.
+use Rattle.std.proofs.Common.{◌≡◌, ℕ, ◌⊎◌, inl, inr, Bool, true, false, List, [], ◌∷◌, refl, sym, ap, ◌∙◌, subst}
+use Rattle.std.specs.List.{prefix_len}
 use Rattle.rx_io.specs.Shelf.{Texts}
-use Rattle.rx_syntax.specs.declared.token.Place.{Place}
-use Rattle.rx_program.specs.declared.chain.Field.{Field}
-use Rattle.rx_program.specs.declared.package.Package.{Package}
-use Rattle.rx_program.specs.declared.answer.Decoding.{Decoding}
+use Rattle.rx_syntax.specs.declared.tree.PackageTree.{PackageTree}
 use Rattle.rx_program.specs.declared.answer.Answer.{Answer}
-use Rattle.rx_program.specs.declared.answer.Answer.TheVariants.{Usage, ShelfFault, NoPackage, TextLimit, Refused, PackageLimit, Later, NoMessage, SourceFault, InputLimit, Input}
+use Rattle.rx_program.specs.declared.answer.Answer.TheVariants.{Usage, ShelfFault, NoPackage, TextLimit, Refused, PackageLimit, Unserved, Broken, NoMessage, Branching, Unchecked, SourceFault, InputLimit, Input}
 use Rattle.rx_program.specs.declared.refusal.Refusal.{Refusal}
-use Rattle.rx_program.specs.Words.{IsDecode, HaveNoForm}
-use Rattle.rx_program.specs.Chains.{IsPackageOfChains, Declares}
-use Rattle.rx_program.specs.Decode.{DecodesTo}
-use Rattle.rx_program.specs.Closure.{HasNone, HasLong, HasRefused, IsClosed, Reaches, IsCrowded, begins, withs_of}
-use Rattle.rx_program.specs.Answers.{input_limit, Supplies, IsNoneOfChains, LacksMessage, Asks, AskOf, Answers}
-use Rattle.rx_program.specs.Laws.{is_fault}
-use Rattle.rx_program.proofs.OneFields.{decode_same, is_package_same, declares_same}
-use Rattle.rx_program.proofs.OneDecoding.{declared_different, decodes_same}
-use Rattle.rx_program.proofs.OneText.{text_same, Met, nothing, too_long, refused, read, met_same}
+use Rattle.rx_program.specs.Words.{is_no_colon, IsOperand, IsDecode, HaveNoForm}
+use Rattle.rx_program.specs.Closure.{HasNone, HasLong, HasRefused, IsClosure, Reaches, IsCrowded, begins, withs_of}
+use Rattle.rx_program.specs.Request.{Request}
+use Rattle.rx_program.specs.Answers.{Asks, AskOf, Answers}
+use Rattle.rx_program.specs.Laws.{is_fault, IsEnd}
+use Rattle.rx_program.proofs.WordLemmas.{stands_at}
+use Rattle.rx_program.proofs.OneText.{Met, nothing, too_long, refused, read}
 use Rattle.rx_program.proofs.OneWalk.{Stopped, one_stop, stopped_not_closed}
 
--- the shelf supplies the message of this package, with these fields
-record Gets (texts : Texts) (name message : List ℕ) (fields : List Field) : Type 0 where
-  pub «package» : Package
-  pub supplied : Supplies texts name «package»
-  pub declared : Declares «package».declarations message fields
+-- two names with the same items
+record SameNames (name other item another : List ℕ) : Type 0 where
+  names : name ≡ other
+  items : item ≡ another
+
+operand_same : (word name item other another : List ℕ) → IsOperand word name item → IsOperand word other another → SameNames name other item another
+operand_same word name item other another is is' =
+    let one = stands_at word name item (prefix_len is_no_colon word) is refl in
+    let two = stands_at word other another (prefix_len is_no_colon word) is' refl in
+    record { names = sym one.front ∙ two.front; items = sym one.back ∙ two.back }
+
+-- the words ask for one message
+decode_same : (words : List (List ℕ)) (name message other another : List ℕ) → IsDecode words name message → IsDecode words other another → SameNames name other message another
+decode_same [] name message other another is is' = absurd is
+decode_same (a ∷ []) name message other another is is' = absurd is
+decode_same (a ∷ b ∷ []) name message other another is is' = operand_same b name message other another is.1 is'.1
+decode_same (a ∷ b ∷ c ∷ rest) name message other another is is' = absurd is
 
 -- the answer where the walk ends at this package
 abbrev answer_at : List ℕ → Met → Answer
@@ -37,118 +45,22 @@ record IsOfWalk (texts : Texts) (name : List ℕ) (a : Answer) : Type 0 where
   stopped : Stopped texts name
   is : a ≡ answer_at stopped.name stopped.met
 
--- the answer, no fault, where the words ask for this message of this package, and the walk from it has gone through all packages
-abbrev AnswersIn : List ℕ → List ℕ → Texts → List ℕ → Answer → Type 0
-AnswersIn name message texts input (Later n place) = (n ≡ name) × IsNoneOfChains texts name place
-AnswersIn name message texts input (NoMessage n m) = (n ≡ name) × (m ≡ message) × LacksMessage texts name message
-AnswersIn name message texts input InputLimit = ((fields : List Field) × Gets texts name message fields) × (input_limit < length input)
-AnswersIn name message texts input (Input decoding) = (fields : List Field) × Gets texts name message fields × (length input ≤ input_limit) × DecodesTo fields input decoding
-AnswersIn name message texts input answer = ⊥
+-- all packages of the closure are read
+abbrev IsRead : Texts → List ℕ → Type 0
+IsRead texts name = (asked : List (List ℕ)) × (trees : List PackageTree) × IsClosure texts name asked trees
 
--- the same, where the walk may end before
-abbrev AnswersFor : List ℕ → List ℕ → Texts → List ℕ → Answer → Type 0
-AnswersFor name message texts input a = IsOfWalk texts name a ⊎ (IsClosed texts name × AnswersIn name message texts input a)
-
--- the shelf supplies one package of a name
-supplies_same : (texts : Texts) (name : List ℕ) (p q : Package) → Supplies texts name p → Supplies texts name q → p ≡ q
-supplies_same texts name p q one two =
-    let same = text_same texts name one.text two.text one.has.found two.has.found in
-    is_package_same two.text name p q (subst (λ (t : List ℕ). IsPackageOfChains t name p) same one.is) two.is
-
--- a package that lacks a message has no fields of it
-no_fields : (texts : Texts) (name message : List ℕ) (fields : List Field) → LacksMessage texts name message → Gets texts name message fields → ⊥
-no_fields texts name message fields lacks gets =
-    let same = supplies_same texts name gets.«package» lacks.«package» gets.supplied lacks.supplied in
-    lacks.lacks fields (subst (λ (p : Package). Declares p.declarations message fields) same gets.declared)
-
--- the shelf supplies one chain of fields
-gets_same : (texts : Texts) (name message : List ℕ) (fields others : List Field) → Gets texts name message fields → Gets texts name message others → fields ≡ others
-gets_same texts name message fields others one two =
-    let same = supplies_same texts name one.«package» two.«package» one.supplied two.supplied in
-    declares_same two.«package».declarations message fields others two.supplied.is.formed.declared (subst (λ (p : Package). Declares p.declarations message fields) same one.declared) two.declared
-
--- a package's own name stands at one place
-one_place : (texts : Texts) (name : List ℕ) (place other : Place) → IsNoneOfChains texts name place → IsNoneOfChains texts name other → place ≡ other
-one_place texts name place other one two =
-    let same = met_same texts name (read (withs_of one.tree) place) (read (withs_of two.tree) other) (one.tree, one.has, refl, one.at) (two.tree, two.has, refl, two.at) in
-    let places : place ≡ other = cc in
-    places
-
--- what the answer is, where that stands on the shelf and in the input
-module _ (name message : List ℕ) (texts : Texts) (input : List ℕ) where
-  only_later : (place : Place) → IsNoneOfChains texts name place → (a : Answer) → AnswersIn name message texts input a → a ≡ Later name place
-  only_later place none (Later n other) is = ap (λ l. Later l other) is.0 ∙ ap (Later name) (one_place texts name other place is.1 none)
-  only_later place none (NoMessage n m) is = absurd (none.is_none is.2.«package» is.2.supplied)
-  only_later place none InputLimit is = absurd (none.is_none is.0.1.«package» is.0.1.supplied)
-  only_later place none (Input decoding) is = absurd (none.is_none is.1.«package» is.1.supplied)
-  only_later place none a is = absurd is
-
-  only_no_message : LacksMessage texts name message → (a : Answer) → AnswersIn name message texts input a → a ≡ NoMessage name message
-  only_no_message lacks (Later n place) is = absurd (is.1.is_none lacks.«package» lacks.supplied)
-  only_no_message lacks (NoMessage n m) is = ap (λ l. NoMessage l m) is.0 ∙ ap (NoMessage name) is.1
-  only_no_message lacks InputLimit is = absurd (no_fields texts name message is.0.0 lacks is.0.1)
-  only_no_message lacks (Input decoding) is = absurd (no_fields texts name message is.0 lacks is.1)
-  only_no_message lacks a is = absurd is
-
-  -- an answer about the input, where the shelf supplies these fields
-  abbrev IsOf : List Field → Answer → Type 0
-  IsOf fields InputLimit = input_limit < length input
-  IsOf fields (Input decoding) = (length input ≤ input_limit) × DecodesTo fields input decoding
-  IsOf fields answer = ⊥
-
-  only_of_input : (fields : List Field) → Gets texts name message fields → (a : Answer) → AnswersIn name message texts input a → IsOf fields a
-  only_of_input fields gets (Later n place) is = absurd (is.1.is_none gets.«package» gets.supplied)
-  only_of_input fields gets (NoMessage n m) is = absurd (no_fields texts name message fields is.2 gets)
-  only_of_input fields gets InputLimit is = is.1
-  only_of_input fields gets (Input decoding) is = (is.2, subst (λ (fs : List Field). DecodesTo fs input decoding) (gets_same texts name message is.0 fields is.1 gets) is.3)
-  only_of_input fields gets a is = absurd is
-
-  only_input_limit : (fields : List Field) → input_limit < length input → (a : Answer) → IsOf fields a → a ≡ InputLimit
-  only_input_limit fields more InputLimit is = refl
-  only_input_limit fields more (Input decoding) is = (let within = is.0 in absurd (omega arith))
-  only_input_limit fields more a is = absurd is
-
-  only_input : (fields : List Field) (decoding : Decoding) → Gets texts name message fields → length input ≤ input_limit → DecodesTo fields input decoding → (a : Answer) → IsOf fields a → a ≡ Input decoding
-  only_input fields decoding gets within decodes InputLimit is = absurd (omega arith)
-  only_input fields decoding gets within decodes (Input other) is =
-      ap Input (decodes_same fields input other decoding (declared_different gets.«package».declarations message fields gets.declared) is.1 decodes)
-  only_input fields decoding gets within decodes a is = absurd is
-
-  -- one answer where the walk has gone through all packages
-  one_in : (a b : Answer) → AnswersIn name message texts input a → AnswersIn name message texts input b → a ≡ b
-  one_in (Later n place) b is is' = only_later place is.1 (Later n place) is ∙ sym (only_later place is.1 b is')
-  one_in (NoMessage n m) b is is' = only_no_message is.2 (NoMessage n m) is ∙ sym (only_no_message is.2 b is')
-  one_in InputLimit b is is' = sym (only_input_limit is.0.0 is.1 b (only_of_input is.0.0 is.0.1 b is'))
-  one_in (Input decoding) b is is' = sym (only_input is.0 decoding is.1 is.2 is.3 b (only_of_input is.0 is.1 b is'))
-  one_in a b is is' = absurd is
-
-  -- one answer where the walk ends before
-  one_end : (a b : Answer) → IsOfWalk texts name a → IsOfWalk texts name b → a ≡ b
-  one_end a b is is' =
-      let same = one_stop texts name is.stopped is'.stopped in
-      is.is ∙ ap (λ n. answer_at n is.stopped.met) same.names ∙ ap (answer_at is'.stopped.name) same.mets ∙ sym is'.is
-
-  one_for : (a b : Answer) → AnswersFor name message texts input a → AnswersFor name message texts input b → a ≡ b
-  one_for a b (inl is) (inl is') = one_end a b is is'
-  one_for a b (inl is) (inr is') = absurd (stopped_not_closed texts name is.stopped is'.0)
-  one_for a b (inr is) (inl is') = absurd (stopped_not_closed texts name is'.stopped is.0)
-  one_for a b (inr is) (inr is') = one_in a b is.1 is'.1
-
-gets_of : (words : List (List ℕ)) (texts : Texts) (name message : List ℕ) (fields : List Field) → IsDecode words name message → Asks words texts fields → Gets texts name message fields
-gets_of words texts name message fields is asks =
-    let same = decode_same words asks.name asks.message name message asks.words_are is in
-    record {
-      «package» = asks.«package»;
-      supplied = subst (λ (n : List ℕ). Supplies texts n asks.«package») same.names asks.supplied;
-      declared = subst (λ (m : List ℕ). Declares asks.«package».declarations m fields) same.items asks.declared;
-    }
-
-closed_of : (words : List (List ℕ)) (texts : Texts) (name message : List ℕ) (fields : List Field) → IsDecode words name message → Asks words texts fields → IsClosed texts name
-closed_of words texts name message fields is asks = subst (IsClosed texts) (decode_same words asks.name asks.message name message asks.words_are is).names asks.closed
+one_end_of : (texts : Texts) (name : List ℕ) (a b : Answer) → IsOfWalk texts name a → IsOfWalk texts name b → a ≡ b
+one_end_of texts name a b is is' =
+    let same = one_stop texts name is.stopped is'.stopped in
+    is.is ∙ ap (λ n. answer_at n is.stopped.met) same.names ∙ ap (answer_at is'.stopped.name) same.mets ∙ sym is'.is
 
 -- the name that an answer has is the one that the words ask for
 named : (words : List (List ℕ)) (name message n : List ℕ) → IsDecode words name message → AskOf words n → n ≡ name
 named words name message n is asks = (decode_same words n asks.0 name message asks.1 is).names
+
+read_of : (words : List (List ℕ)) (texts : Texts) (name message : List ℕ) (r : Request) → IsDecode words name message → Asks words texts r → IsRead texts name
+read_of words texts name message r is asks =
+    (r.asked, r.trees, subst (λ (n : List ℕ). IsClosure texts n r.asked r.trees) (decode_same words r.name r.message name message asks.words_are is).names asks.closure)
 
 -- the walk ends at the package that the words ask for, which is absent
 ends_absent : (texts : Texts) (name : List ℕ) → HasNone texts name → IsOfWalk texts name (NoPackage name)
@@ -185,33 +97,47 @@ ends_crowded texts first c = record {
   is = refl;
 }
 
-answers_for : (words : List (List ℕ)) (texts : Texts) (input name message : List ℕ) (a : Answer) → IsDecode words name message → is_fault a ≡ false → Answers words texts input a → AnswersFor name message texts input a
-answers_for words texts input name message Usage is sound answers = absurd (answers name message is)
-answers_for words texts input name message ShelfFault is sound answers = absurd (let no : true ≡ false = sound in cc)
-answers_for words texts input name message (NoPackage n) is sound answers =
+-- an answer of a command whose packages are not all read is that of an end of the walk
+ended : (words : List (List ℕ)) (texts : Texts) (input name message : List ℕ) (a : Answer) → IsDecode words name message → IsEnd a → Answers words texts input a → IsOfWalk texts name a
+ended words texts input name message Usage is end answers = absurd (answers name message is)
+ended words texts input name message (NoPackage n) is end answers =
     let same : n ≡ name = named words name message n is answers.0 in
-    inl (subst (λ (l : List ℕ). IsOfWalk texts l (NoPackage n)) same (ends_absent texts n answers.1))
-answers_for words texts input name message (TextLimit file) is sound answers =
+    subst (λ (l : List ℕ). IsOfWalk texts l (NoPackage n)) same (ends_absent texts n answers.1)
+ended words texts input name message (TextLimit file) is end answers =
     let same = named words name message answers.0.0 is answers.0.1 in
-    inl (ends_long texts name file (subst (λ (l : List ℕ). Reaches texts l file) same answers.0.2) answers.1)
-answers_for words texts input name message (Refused file refusal) is sound answers =
+    ends_long texts name file (subst (λ (l : List ℕ). Reaches texts l file) same answers.0.2) answers.1
+ended words texts input name message (Refused file refusal) is end answers =
     let same = named words name message answers.0.0 is answers.0.1 in
-    inl (ends_refused texts name file refusal (subst (λ (l : List ℕ). Reaches texts l file) same answers.0.2) answers.1)
-answers_for words texts input name message PackageLimit is sound answers =
+    ends_refused texts name file refusal (subst (λ (l : List ℕ). Reaches texts l file) same answers.0.2) answers.1
+ended words texts input name message PackageLimit is end answers =
     let same = named words name message answers.0 is answers.1 in
-    inl (ends_crowded texts name (subst (IsCrowded texts) same answers.2))
-answers_for words texts input name message (Later n place) is sound answers =
-    let same = named words name message n is answers.0 in
-    inr (subst (IsClosed texts) same answers.1, (same, subst (λ (l : List ℕ). IsNoneOfChains texts l place) same answers.2))
-answers_for words texts input name message (NoMessage n m) is sound answers =
-    let same = decode_same words n m name message answers.0 is in
-    let lacks = subst (λ (l : List ℕ). LacksMessage texts name l) same.items (subst (λ (l : List ℕ). LacksMessage texts l m) same.names answers.2) in
-    inr (subst (IsClosed texts) same.names answers.1, (same.names, same.items, lacks))
-answers_for words texts input name message SourceFault is sound answers = absurd (let no : true ≡ false = sound in cc)
-answers_for words texts input name message InputLimit is sound answers =
-    inr (closed_of words texts name message answers.0.0 is answers.0.1, ((answers.0.0, gets_of words texts name message answers.0.0 is answers.0.1), answers.1))
-answers_for words texts input name message (Input decoding) is sound answers =
-    inr (closed_of words texts name message answers.0 is answers.1, (answers.0, gets_of words texts name message answers.0 is answers.1, answers.2, answers.3))
+    ends_crowded texts name (subst (IsCrowded texts) same answers.2)
+ended words texts input name message ShelfFault is end answers = absurd end
+ended words texts input name message (Unserved file unserved) is end answers = absurd end
+ended words texts input name message (Broken file breach) is end answers = absurd end
+ended words texts input name message (NoMessage n m) is end answers = absurd end
+ended words texts input name message (Branching n place) is end answers = absurd end
+ended words texts input name message (Unchecked n place) is end answers = absurd end
+ended words texts input name message SourceFault is end answers = absurd end
+ended words texts input name message InputLimit is end answers = absurd end
+ended words texts input name message (Input decoding) is end answers = absurd end
+
+-- any other answer but a fault is so, too, or all packages are read
+ended_or_read : (words : List (List ℕ)) (texts : Texts) (input name message : List ℕ) (a : Answer) → IsDecode words name message → is_fault a ≡ false → Answers words texts input a → IsOfWalk texts name a ⊎ IsRead texts name
+ended_or_read words texts input name message Usage is sound answers = inl (ended words texts input name message Usage is tt answers)
+ended_or_read words texts input name message (NoPackage n) is sound answers = inl (ended words texts input name message (NoPackage n) is tt answers)
+ended_or_read words texts input name message (TextLimit file) is sound answers = inl (ended words texts input name message (TextLimit file) is tt answers)
+ended_or_read words texts input name message (Refused file refusal) is sound answers = inl (ended words texts input name message (Refused file refusal) is tt answers)
+ended_or_read words texts input name message PackageLimit is sound answers = inl (ended words texts input name message PackageLimit is tt answers)
+ended_or_read words texts input name message ShelfFault is sound answers = absurd (let no : true ≡ false = sound in cc)
+ended_or_read words texts input name message (Unserved file unserved) is sound answers = inr (read_of words texts name message answers.0 is answers.1)
+ended_or_read words texts input name message (Broken file breach) is sound answers = inr (read_of words texts name message answers.0 is answers.1)
+ended_or_read words texts input name message (NoMessage n m) is sound answers = inr (read_of words texts name message answers.0 is answers.1)
+ended_or_read words texts input name message (Branching n place) is sound answers = inr (read_of words texts name message answers.0 is answers.1)
+ended_or_read words texts input name message (Unchecked n place) is sound answers = inr (read_of words texts name message answers.0 is answers.1)
+ended_or_read words texts input name message SourceFault is sound answers = inr (read_of words texts name message answers.0 is answers.1)
+ended_or_read words texts input name message InputLimit is sound answers = inr (read_of words texts name message answers.0 is answers.1)
+ended_or_read words texts input name message (Input decoding) is sound answers = inr (read_of words texts name message answers.0 is answers.1)
 
 -- the words of an answer ask for a message, or have no form
 abbrev HaveForm : List (List ℕ) → Type 0
@@ -224,15 +150,22 @@ words_of words texts input (NoPackage n) answers = inr (n, answers.0.0, answers.
 words_of words texts input (TextLimit file) answers = inr (answers.0.0, answers.0.1.0, answers.0.1.1)
 words_of words texts input (Refused file refusal) answers = inr (answers.0.0, answers.0.1.0, answers.0.1.1)
 words_of words texts input PackageLimit answers = inr (answers.0, answers.1.0, answers.1.1)
-words_of words texts input (Later n place) answers = inr (n, answers.0.0, answers.0.1)
-words_of words texts input (NoMessage n m) answers = inr (n, m, answers.0)
-words_of words texts input SourceFault answers = inr (answers.1.name, answers.1.message, answers.1.words_are)
-words_of words texts input InputLimit answers = inr (answers.0.1.name, answers.0.1.message, answers.0.1.words_are)
-words_of words texts input (Input decoding) answers = inr (answers.1.name, answers.1.message, answers.1.words_are)
+words_of words texts input (Unserved file unserved) answers = inr (answers.0.name, answers.0.message, answers.1.words_are)
+words_of words texts input (Broken file breach) answers = inr (answers.0.name, answers.0.message, answers.1.words_are)
+words_of words texts input (NoMessage n m) answers = inr (answers.0.name, answers.0.message, answers.1.words_are)
+words_of words texts input (Branching n place) answers = inr (answers.0.name, answers.0.message, answers.1.words_are)
+words_of words texts input (Unchecked n place) answers = inr (answers.0.name, answers.0.message, answers.1.words_are)
+words_of words texts input SourceFault answers = inr (answers.0.name, answers.0.message, answers.1.words_are)
+words_of words texts input InputLimit answers = inr (answers.0.name, answers.0.message, answers.1.words_are)
+words_of words texts input (Input decoding) answers = inr (answers.0.name, answers.0.message, answers.1.words_are)
 
-pub one_answer_lem : (words : List (List ℕ)) (texts : Texts) (input : List ℕ) (a b : Answer) → is_fault a ≡ false → is_fault b ≡ false → Answers words texts input a → Answers words texts input b → a ≡ b
-one_answer_lem words texts input a b sound sound' answers answers' =
+pub one_end_lem : (words : List (List ℕ)) (texts : Texts) (input : List ℕ) (a b : Answer) → IsEnd a → is_fault b ≡ false → Answers words texts input a → Answers words texts input b → a ≡ b
+one_end_lem words texts input a b end sound answers answers' =
     elim (words_of words texts input a answers) [
       | inl none ↦ elim (words_of words texts input b answers') [ inl none' ↦ none.0 ∙ sym none'.0 | inr has ↦ absurd (none.1 has.0 has.1 has.2) ]
-      | inr has ↦ one_for has.0 has.1 texts input a b (answers_for words texts input has.0 has.1 a has.2 sound answers) (answers_for words texts input has.0 has.1 b has.2 sound' answers')
+      | inr has ↦ by_end has (ended_or_read words texts input has.0 has.1 b has.2 sound answers')
     ]
+  where
+    by_end : (has : HaveForm words) → IsOfWalk texts has.0 b ⊎ IsRead texts has.0 → a ≡ b
+    by_end has (inl is) = one_end_of texts has.0 a b (ended words texts input has.0 has.1 a has.2 end answers) is
+    by_end has (inr all) = absurd (stopped_not_closed (ended words texts input has.0 has.1 a has.2 end answers).stopped all.2)

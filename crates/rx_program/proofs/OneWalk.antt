@@ -4,7 +4,8 @@ use Rattle.std.specs.Prelude.{slice_get}
 use Rattle.std.proofs.lemmas.Bool.{cases_lt}
 use Rattle.std.proofs.lemmas.Option.{slice_get_within}
 use Rattle.rx_io.specs.Shelf.{Texts}
-use Rattle.rx_program.specs.Closure.{package_limit, withs_of, added, IsStep, passes, reads, Walked, begins, goes_on, IsClosed}
+use Rattle.rx_syntax.specs.declared.tree.PackageTree.{PackageTree}
+use Rattle.rx_program.specs.Closure.{package_limit, withs_of, added, IsStep, passes, reads, Walked, begins, goes_on, IsClosure}
 use Rattle.rx_program.proofs.OneText.{Met, nothing, too_long, refused, read, IsMet, met_same}
 
 -- what was met at package `k` of the list lets the walk go on, with this list
@@ -126,8 +127,8 @@ past_the_end : (names : List (List ℕ)) (name : List ℕ) → slice_get names (
 past_the_end names name there = (let within = slice_get_within names (length names) name there in absurd (omega arith))
 
 -- a walk that has gone through all packages does not end before
-pub stopped_not_closed : (texts : Texts) (first : List ℕ) → Stopped texts first → IsClosed texts first → ⊥
-stopped_not_closed texts first s closed =
+pub stopped_not_closed : {texts : Texts} {first : List ℕ} {asked : List (List ℕ)} {trees : List PackageTree} → Stopped texts first → IsClosure texts first asked trees → ⊥
+stopped_not_closed {texts = texts} {first = first} s closed =
     elim (cases_lt s.at (length closed.names)) [
       | inl before ↦ not_past texts first s (length closed.names) closed.names closed.walked before
       | inr after ↦ elim (cases_lt (length closed.names) s.at) [ inl before ↦ beyond before | inr other ↦ here (let same : s.at ≡ length closed.names = omega arith in same) ]

@@ -2,7 +2,8 @@
 --   Has, HasNone, HasLong, HasText          the text that the shelf has under a name
 --   IsRefused, IsTree, HasRefused, HasTree  what the text is
 --   withs_of, added, IsStep, Walked         the walk through the list of packages
---   IsClosed, Reaches, IsCrowded            where the walk ends, and where it comes
+--   Reaches, IsCrowded                      where it comes
+--   AreFetched, IsClosure                   the packages that it has gone through in the end, with their trees
 use Rattle.std.specs.Prelude.{◌≡◌, ℕ, suc, ◌<◌, ◌≤◌, List, [], ◌∷◌, ◌++◌, length, map, Some, None, slice_get, true, if◌then◌else◌}
 use Rattle.std.specs.List.{list_any}
 use Rattle.std.specs.Str.{str_to_ascii_lowercase}
@@ -92,11 +93,6 @@ pub data Walked (texts : Texts) (first : List ℕ) : ℕ → List (List ℕ) →
   begins : Walked texts first 0 (first ∷ [])
   goes_on : {k : ℕ} {names more : List (List ℕ)} → Walked texts first k names → IsStep texts k names more → Walked texts first (suc k) more
 
--- the walk has gone through all packages of the list, which is the closure
-pub record IsClosed (texts : Texts) (first : List ℕ) : Type 0 where
-  pub names : List (List ℕ)
-  pub walked : Walked texts first (length names) names
-
 -- the walk comes to this package: it has gone through all packages before it
 pub record Reaches (texts : Texts) (first name : List ℕ) : Type 0 where
   pub at : ℕ
@@ -111,3 +107,21 @@ pub record IsCrowded (texts : Texts) (first : List ℕ) : Type 0 where
   pub tree : PackageTree
   pub has : HasTree texts name tree
   pub more : package_limit < length (added reached.names (withs_of tree))
+
+-- the packages of a list of names that the shelf has, in its order: the names under which they were fetched, and their trees
+pub data AreFetched (texts : Texts) : List (List ℕ) → List (List ℕ) → List PackageTree → Type 0 where
+  no_packages : AreFetched texts [] [] []
+  one_absent : {names asked : List (List ℕ)} {trees : List PackageTree} (name : List ℕ) → AreFetched texts names asked trees → HasNone texts name → AreFetched texts (names ++ name ∷ []) asked trees
+  one_fetched : {names asked : List (List ℕ)} {trees : List PackageTree} {name : List ℕ} {tree : PackageTree} → AreFetched texts names asked trees → HasTree texts name tree
+      → AreFetched texts (names ++ name ∷ []) (asked ++ name ∷ []) (trees ++ tree ∷ [])
+
+-- the walk from the first package has gone through all packages of the list, of which the shelf has these
+pub record IsClosure (texts : Texts) (first : List ℕ) (asked : List (List ℕ)) (trees : List PackageTree) : Type 0 where
+  pub names : List (List ℕ)
+  pub walked : Walked texts first (length names) names
+  pub fetched : AreFetched texts names asked trees
+
+-- at least one package, each with its name
+pub record ArePaired (asked : List (List ℕ)) (trees : List PackageTree) : Type 0 where
+  pub some : 0 < length trees
+  pub same : length asked ≡ length trees

@@ -1,10 +1,30 @@
--- What the input is of a message with given fields.
-use Rattle.std.specs.Prelude.{ℕ, ◌<◌, ◌≤◌, List, length}
-use Rattle.rx_program.specs.declared.chain.Field.{Field}
+-- What the input is of a message.
+--   DecodesTo domains m bytes d      what a buffer is of the message
+--   IsReadAs domains m left a        what is left of an input is answered by this
+use Rattle.std.specs.Prelude.{◌≡◌, ℕ, ◌<◌, ◌≤◌, List, length, Option, Some, None, slice_get}
+use Rattle.std.specs.Option.{option_map}
+use Rattle.rx_types.specs.Domain.{Domain}
+use Rattle.rx_graph.specs.Graph.{Graph}
+use Rattle.rx_graph.specs.Fits.{ReadsNothing, StopsAt}
+use Rattle.rx_decode.specs.Decoded.{IsJson}
 use Rattle.rx_program.specs.declared.answer.Answer.{Answer}
 use Rattle.rx_program.specs.declared.answer.Answer.TheVariants.{SourceFault, InputLimit, Input}
-use Rattle.rx_program.specs.Decode.{DecodesTo}
-use Rattle.rx_program.specs.Answers.{input_limit}
+use Rattle.rx_program.specs.declared.answer.Decoding.{Decoding}
+use Rattle.rx_program.specs.declared.answer.Decoding.TheVariants.{Json, Stuck}
+
+-- the greatest length of an input, in bytes
+abbrev pub input_limit : ℕ
+input_limit = 16777215
+
+-- the name of a field, if there is one
+abbrev pub name_if_any : Graph → Option ℕ → Option (List ℕ)
+name_if_any m None = None
+name_if_any m (Some f) = option_map (λ x. x.name) (slice_get m.fields f)
+
+-- The JSON of what the buffer reads as; or no path fits it, and the longest stops for this reason, at the field of this name.
+abbrev pub DecodesTo : List Domain → Graph → List ℕ → Decoding → Type 0
+DecodesTo domains m bytes (Json text) = IsJson domains m bytes text.items
+DecodesTo domains m bytes (Stuck reason name) = ReadsNothing domains m bytes × ((field : Option ℕ) × StopsAt domains m bytes reason field × (name ≡ name_if_any m field))
 
 -- an answer that is about the input
 abbrev pub IsOfInput : Answer → Type 0
@@ -18,9 +38,9 @@ abbrev pub IsOfWhole : Answer → Type 0
 IsOfWhole (Input decoding) = Unit {0}
 IsOfWhole _ = ⊥
 
--- what is left is answered by this, where the message has these fields
-abbrev pub IsReadAs : List Field → List ℕ → Answer → Type 0
-IsReadAs fields left SourceFault = Unit {0}
-IsReadAs fields left InputLimit = input_limit < length left
-IsReadAs fields left (Input decoding) = (length left ≤ input_limit) × DecodesTo fields left decoding
-IsReadAs fields left _ = ⊥
+-- what is left is answered by this
+abbrev pub IsReadAs : List Domain → Graph → List ℕ → Answer → Type 0
+IsReadAs domains m left SourceFault = Unit {0}
+IsReadAs domains m left InputLimit = input_limit < length left
+IsReadAs domains m left (Input decoding) = (length left ≤ input_limit) × DecodesTo domains m left decoding
+IsReadAs domains m left _ = ⊥

@@ -2,7 +2,7 @@
 use Rattle.std.specs.Prelude.{◌≡◌, ℕ, List, Bool, true, false}
 use Rattle.rx_io.specs.Shelf.{Texts}
 use Rattle.rx_program.specs.declared.answer.Answer.{Answer}
-use Rattle.rx_program.specs.declared.answer.Answer.TheVariants.{ShelfFault, SourceFault}
+use Rattle.rx_program.specs.declared.answer.Answer.TheVariants.{Usage, ShelfFault, NoPackage, TextLimit, Refused, PackageLimit, SourceFault}
 use Rattle.rx_program.specs.Answers.{Answers}
 
 -- a fault of the shelf or the source, which may take the place of another answer
@@ -11,7 +11,16 @@ is_fault ShelfFault = true
 is_fault SourceFault = true
 is_fault _ = false
 
--- but for faults, at most one answer belongs to words, texts and input
-abbrev pub OneAnswer : Type 0
-OneAnswer = (words : List (List ℕ)) (texts : Texts) (input : List ℕ) (one other : Answer) → is_fault one ≡ false → is_fault other ≡ false
+-- an answer of a command whose packages are not all read
+abbrev pub IsEnd : Answer → Type 0
+IsEnd Usage = Unit {0}
+IsEnd (NoPackage name) = Unit {0}
+IsEnd (TextLimit file) = Unit {0}
+IsEnd (Refused file refusal) = Unit {0}
+IsEnd PackageLimit = Unit {0}
+IsEnd _ = ⊥
+
+-- but for faults, such an answer is the only one that belongs to words, texts and input
+abbrev pub OneEnd : Type 0
+OneEnd = (words : List (List ℕ)) (texts : Texts) (input : List ℕ) (one other : Answer) → IsEnd one → is_fault other ≡ false
     → Answers words texts input one → Answers words texts input other → one ≡ other

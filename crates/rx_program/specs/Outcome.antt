@@ -1,31 +1,22 @@
 -- How an answer shows: the status, and the bytes that are written.
-use Rattle.std.specs.Prelude.{◌≡◌, ℕ, List, [], ◌∷◌, ◌++◌, take, codes, flat_map, decimal}
+use Rattle.std.specs.Prelude.{◌≡◌, ℕ, List, [], ◌∷◌, ◌++◌, Option, Some, None, take, codes}
 use Rattle.std.specs.Str.{str_to_ascii_lowercase}
 use Rattle.rx_io.specs.Shelf.{Texts}
 use Rattle.rx_program.specs.declared.status.Status.{Status}
 use Rattle.rx_program.specs.declared.status.Status.TheVariants.{Done, Words, Specification, InputRefused, SinkFault, Limit, NoMemory}
 use Rattle.rx_program.specs.declared.status.Status.TheVariants.{SourceFault as SourceStatus, ShelfFault as ShelfStatus}
-use Rattle.rx_program.specs.declared.answer.Member.{Member}
-use Rattle.rx_program.specs.declared.answer.Decoding.TheVariants.{Decoded, Short, Trailing}
+use Rattle.rx_syntax.specs.declared.token.Place.{Place}
+use Rattle.rx_types.specs.declared.stuck.Reason.{Reason}
+use Rattle.rx_types.specs.declared.stuck.Reason.TheVariants as reason
+use Rattle.rx_program.specs.declared.answer.Decoding.TheVariants.{Json, Stuck}
 use Rattle.rx_program.specs.declared.answer.Answer.{Answer}
-use Rattle.rx_program.specs.declared.answer.Answer.TheVariants.{Usage, ShelfFault, NoPackage, TextLimit, Refused, PackageLimit, Later, NoMessage, SourceFault, InputLimit, Input}
+use Rattle.rx_program.specs.declared.answer.Answer.TheVariants.{Usage, ShelfFault, NoPackage, TextLimit, Refused, PackageLimit, Unserved, Broken, NoMessage, Branching, Unchecked, SourceFault, InputLimit, Input}
 use Rattle.rx_program.specs.declared.refusal.Cause.TheVariants.{Unsupported}
+use Rattle.rx_judge.specs.declared.fault.Refusal as judge
 use Rattle.rx_program.specs.declared.refusal.Refusal.{Refusal}
-use Rattle.rx_program.specs.Refusals.{refusal_text}
+use Rattle.rx_program.specs.Refusals.{refusal_text, breach_text}
+use Rattle.rx_program.specs.Stage.{word_of}
 use Rattle.rx_program.specs.Answers.{Answers}
-
--- a member of an object
-abbrev pub member_text : Member → List ℕ
-member_text member = codes "\"" ++ member.name ++ codes "\":" ++ decimal member.value
-
--- members, each after a comma
-abbrev pub others_text : List Member → List ℕ
-others_text members = flat_map (λ member. codes "," ++ member_text member) members
-
--- one compact object of these members, in this order
-abbrev pub object_text : List Member → List ℕ
-object_text [] = codes "{}"
-object_text (member ∷ others) = codes "{" ++ member_text member ++ others_text others ++ codes "}"
 
 -- the status of an answer that was written whole
 abbrev pub status_of : Answer → Status
@@ -35,13 +26,15 @@ status_of (NoPackage name) = Specification
 status_of (TextLimit file) = Limit
 status_of (Refused file refusal) = Specification
 status_of PackageLimit = Limit
-status_of (Later name place) = Specification
+status_of (Unserved file unserved) = Specification
+status_of (Broken file breach) = Specification
 status_of (NoMessage name message) = Specification
+status_of (Branching name place) = Specification
+status_of (Unchecked name place) = Specification
 status_of SourceFault = SourceStatus
 status_of InputLimit = Limit
-status_of (Input (Decoded members)) = Done
-status_of (Input (Short name)) = InputRefused
-status_of (Input (Trailing name)) = InputRefused
+status_of (Input (Json text)) = Done
+status_of (Input (Stuck reason field)) = InputRefused
 
 -- a line
 abbrev pub line : List ℕ → List ℕ
@@ -55,6 +48,29 @@ file_of name = str_to_ascii_lowercase name ++ codes ".rflx"
 abbrev pub refused_text : List ℕ → Refusal → List ℕ
 refused_text name refusal = line (file_of name ++ codes ":" ++ refusal_text refusal)
 
+-- the same of a form that is not served yet, which is told by this word
+abbrev pub unsupported_text : List ℕ → Place → List ℕ → List ℕ
+unsupported_text name place word = refused_text name (record { place = place; cause = Unsupported word })
+
+-- `FILE:LINE:COLUMN: NUMBER NAME WORD`
+abbrev pub broken_text : List ℕ → judge.Refusal → List ℕ
+broken_text name breach = line (file_of name ++ codes ":" ++ breach_text breach)
+
+abbrev pub reason_name : Reason → List ℕ
+reason_name reason.Condition = codes "Condition"
+reason_name reason.Trailing = codes "Trailing"
+reason_name reason.Short = codes "Short"
+reason_name reason.Value = codes "Value"
+
+-- a space and the name, if there is one
+abbrev pub name_text : Option (List ℕ) → List ℕ
+name_text None = []
+name_text (Some name) = codes " " ++ name
+
+-- `refused: REASON FIELD`
+abbrev pub stuck_text : Reason → Option (List ℕ) → List ℕ
+stuck_text reason name = line (codes "refused: " ++ reason_name reason ++ name_text name)
+
 -- the text is that of the answer
 abbrev pub IsText : Answer → List ℕ → Type 0
 IsText Usage text = text ≡ line (codes "usage: rflx check P, decode P::M [--deep Q], encode P::M, run P::S, load N, all with [--splits K]")
@@ -63,13 +79,15 @@ IsText (NoPackage name) text = text ≡ line (file_of name ++ codes ": 8 Unknown
 IsText (TextLimit name) text = text ≡ line (codes "limit: text " ++ file_of name)
 IsText (Refused name refusal) text = text ≡ refused_text name refusal
 IsText PackageLimit text = text ≡ line (codes "limit: packages")
-IsText (Later name place) text = text ≡ refused_text name (record { place = place; cause = Unsupported (codes "Later") })
+IsText (Unserved name unserved) text = text ≡ unsupported_text name unserved.place (word_of unserved.form)
+IsText (Broken name breach) text = text ≡ broken_text name breach
 IsText (NoMessage name message) text = text ≡ line (file_of name ++ codes ": 8 UnknownName " ++ message)
+IsText (Branching name place) text = text ≡ unsupported_text name place (codes "Branching")
+IsText (Unchecked name place) text = text ≡ unsupported_text name place (codes "Unchecked")
 IsText SourceFault text = text ≡ line (codes "fault: source")
 IsText InputLimit text = text ≡ line (codes "limit: input")
-IsText (Input (Decoded members)) text = text ≡ line (object_text members)
-IsText (Input (Short name)) text = text ≡ line (codes "refused: Short " ++ name)
-IsText (Input (Trailing name)) text = text ≡ line (codes "refused: Trailing " ++ name)
+IsText (Input (Json json)) text = text ≡ line json.items
+IsText (Input (Stuck reason name)) text = text ≡ stuck_text reason name
 
 -- the status is that of the answer, or what may take the place of any other
 abbrev pub IsShown : Answer → Status → Type 0

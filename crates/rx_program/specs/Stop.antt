@@ -1,4 +1,4 @@
--- Why a walk through packages ends before all of them are read, and what was read of one.
+-- Why a walk through packages ends before all of them are read.
 use Rattle.std.specs.Prelude.{◌≡◌, ℕ, ◌<◌, List, Some, true}
 use Rattle.rx_io.specs.Shelf.{Texts}
 use Rattle.rx_syntax.specs.Text.{AreTokens, IsFault}
@@ -7,27 +7,12 @@ use Rattle.rx_syntax.specs.declared.token.Token.{Token}
 use Rattle.rx_syntax.specs.declared.fault.LexFault.{LexFault}
 use Rattle.rx_grammar.specs.declared.syntax.SyntaxFault.{SyntaxFault}
 use Rattle.rx_grammar.specs.Grammar.{rule, plain_file}
-use Rattle.rx_grammar.specs.Limits.{Fits, no_limits}
-use Rattle.rx_grammar.specs.Sentence.{IsPackage}
 use Rattle.rx_grammar.specs.Syntax.{IsSyntaxFault}
 use Rattle.rx_program.specs.declared.refusal.Refusal.{Refusal}
-use Rattle.rx_program.specs.declared.closure.Parsed.{Parsed}
 use Rattle.rx_program.specs.declared.closure.Stop.{Stop}
 use Rattle.rx_program.specs.declared.closure.Stop.TheVariants.{Fault, NoPackage, TextLimit, Refused, PackageLimit, NoMemory}
 use Rattle.rx_program.specs.Refusals.{lexer_refusal, parser_refusal}
-use Rattle.rx_program.specs.Closure.{package_limit, HasNone, HasLong, HasText, HasRefused, Walked, Reaches, IsCrowded}
-
--- the tokens and the tree of the text
-pub record IsParsed (text : List ℕ) (parsed : Parsed) : Type 0 where
-  pub are : AreTokens text parsed.tokens.items.items parsed.tokens.end
-  pub is : IsPackage parsed.tokens.items.items parsed.tree
-  pub fits : Fits no_limits parsed.tokens.items.items
-
--- the tokens and the tree of the package on the shelf
-pub record HasParsed (texts : Texts) (name : List ℕ) (parsed : Parsed) : Type 0 where
-  pub text : List ℕ
-  pub has : HasText texts name text
-  pub is : IsParsed text parsed
+use Rattle.rx_program.specs.Closure.{package_limit, HasNone, HasLong, HasRefused, Walked, Reaches, IsCrowded}
 
 -- the package is refused for this
 abbrev pub RefusedFor : List ℕ → (Refusal → Type 0) → Stop → Type 0

@@ -1,23 +1,17 @@
 //! What a command answers, before it is printed.
 use crate::refusal::Refusal;
-use rx_syntax::{Place, Word};
-use sqlite_items::Items;
-
-/// The number that a field has in the input.
-#[derive(Debug, Drop)]
-pub struct Member {
-    pub name: Word,
-    pub value: u64,
-}
+use crate::stage::Unserved;
+use rx_judge::Refusal as Breach;
+use rx_syntax::Place;
+use rx_types::{Name, Reason};
 
 /// What the input is of a message.
 #[derive(Debug, Drop)]
 pub enum Decoding {
-    Decoded(Items<Member>),
-    /// The input ends before the end of this field.
-    Short(Word),
-    /// The input goes on after this last field.
-    Trailing(Word),
+    /// It reads as this JSON.
+    Json(Vec<u8>),
+    /// No path fits it: the longest one stops for this reason, at this field, if any.
+    Stuck(Reason, Option<Name>),
 }
 
 /// What a command answers.
@@ -27,17 +21,23 @@ pub enum Answer {
     Usage,
     ShelfFault,
     /// The shelf has no text of this package.
-    NoPackage(Word),
+    NoPackage(Name),
     /// The text of this package is too long.
-    TextLimit(Word),
+    TextLimit(Name),
     /// The text of this package is refused.
-    Refused(Word, Refusal),
+    Refused(Name, Refusal),
     /// A 65th package is named.
     PackageLimit,
-    /// This package, whose name stands at the place in its text, has forms that are not decoded yet.
-    Later(Word, Place),
+    /// The text of this package has a form that is not served yet.
+    Unserved(Name, Unserved),
+    /// The text of this package breaks a rule.
+    Broken(Name, Breach),
     /// The package has no message of the second name.
-    NoMessage(Word, Word),
+    NoMessage(Name, Name),
+    /// The message of this package branches, at this link.
+    Branching(Name, Place),
+    /// The message of this package, whose name stands there, is not plain.
+    Unchecked(Name, Place),
     SourceFault,
     InputLimit,
     Input(Decoding),

@@ -23,7 +23,7 @@ fn over(alloc: Global, mut shelf: MemoryShelf) -> Result<(Status, Vec<u8>), Fail
     Ok((status, sink.written().to_vec(alloc)?))
 }
 
-const LATER: &[u8] = b"p.rflx:1:17: 7 Unsupported Later\n";
+const NO_MESSAGE: &[u8] = b"p.rflx: 8 UnknownName M\n";
 
 #[test]
 fn a_fault_of_a_third_package_is_told_with_its_file(rt: HostRuntime) -> Result<(), Fail> {
@@ -53,11 +53,14 @@ fn packages_are_read_in_the_order_in_which_they_are_named(rt: HostRuntime) -> Re
 }
 
 #[test]
-fn a_package_that_is_named_and_absent_is_passed_over(rt: HostRuntime) -> Result<(), Fail> {
+fn a_package_that_is_named_and_absent_is_told_by_elaboration(rt: HostRuntime) -> Result<(), Fail> {
     let texts: [(&str, &[u8]); 1] = [("p", b"with B; package P is end P;")];
     let (status, written) = over(rt.alloc(), shelf_of(rt.alloc(), &texts)?)?;
     assert_eq!(rt; status, Status::Specification);
-    assert_eq!(rt; written.as_slice(), LATER);
+    assert_eq!(rt;
+        written.as_slice(),
+        b"p.rflx:1:6: 8 UnknownName B\n".as_slice()
+    );
     Ok(())
 }
 
@@ -69,7 +72,38 @@ fn packages_that_name_each_other_are_read_once(rt: HostRuntime) -> Result<(), Fa
     ];
     let (status, written) = over(rt.alloc(), shelf_of(rt.alloc(), &texts)?)?;
     assert_eq!(rt; status, Status::Specification);
-    assert_eq!(rt; written.as_slice(), LATER);
+    assert_eq!(rt; written.as_slice(), NO_MESSAGE);
+    Ok(())
+}
+
+#[test]
+fn a_refusal_is_told_with_the_file_of_its_package(rt: HostRuntime) -> Result<(), Fail> {
+    let texts: [(&str, &[u8]); 3] = [
+        ("p", b"with B; with C; package P is end P;"),
+        ("b", b"package B is type T is unsigned 64; end B;"),
+        ("c", b"package C is type T is unsigned 64; end C;"),
+    ];
+    let (status, written) = over(rt.alloc(), shelf_of(rt.alloc(), &texts)?)?;
+    assert_eq!(rt; status, Status::Specification);
+    assert_eq!(rt;
+        written.as_slice(),
+        b"b.rflx:1:19: 20 BadRange T\n".as_slice()
+    );
+    Ok(())
+}
+
+#[test]
+fn a_form_that_is_not_served_is_told_before_a_rule(rt: HostRuntime) -> Result<(), Fail> {
+    let texts: [(&str, &[u8]); 2] = [
+        ("p", b"with B; package P is type T is unsigned 64; end P;"),
+        ("b", b"package B is type T is sequence of T; end B;"),
+    ];
+    let (status, written) = over(rt.alloc(), shelf_of(rt.alloc(), &texts)?)?;
+    assert_eq!(rt; status, Status::Specification);
+    assert_eq!(rt;
+        written.as_slice(),
+        b"b.rflx:1:14: 7 Unsupported sequence\n".as_slice()
+    );
     Ok(())
 }
 
@@ -91,7 +125,7 @@ fn a_command_has_64_packages_and_no_more(rt: HostRuntime) -> Result<(), Fail> {
     assert_eq!(rt; status, Status::Specification);
     assert_eq!(rt;
         written.as_slice(),
-        b"p.rflx:64:9: 7 Unsupported Later\n".as_slice()
+        b"p.rflx:1:6: 8 UnknownName A0\n".as_slice()
     );
     let text = naming(rt.alloc(), 64)?;
     let (status, written) = over(rt.alloc(), shelf_of(rt.alloc(), &[("p", &text)])?)?;

@@ -3,21 +3,17 @@
 
 mod adapters;
 mod answer;
-mod chain;
-mod chains;
 mod closure;
 #[cfg(test)]
 mod closure_tests;
-mod decode;
+mod fault;
 pub mod laws;
 mod names;
-mod order;
-mod package;
+mod operand;
 mod print;
-mod reader;
 mod refusal;
+mod stage;
 mod status;
-mod supply;
 #[cfg(test)]
 mod tests;
 #[cfg(test)]

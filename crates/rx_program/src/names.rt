@@ -5,7 +5,9 @@ ghost use Rattle.std.specs.Str.{bytes_eq};
 ghost use Rattle.rx_syntax.specs.Bytes.{is_word_byte};
 ghost use Rattle.rx_program.specs.Names.{is_name, is_reserved, is_word};
 
-use rx_syntax::{NoMemory, Word, is_letter, is_word_byte};
+use crate::fault::NoMemory;
+use rx_syntax::{is_letter, is_word_byte};
+use rx_types::Name;
 use std::alloc::Global;
 
 /// The words that the grammar keeps for itself; one with a capital letter is a name.
@@ -85,13 +87,10 @@ pub fn is_name(bytes: &[u8]) -> bool
     word && !reserved
 }
 
-/// The word of a name.
-pub fn word_of(alloc: Global, name: &[u8]) -> Result<Word, NoMemory>
-    requires { is_name name.now ≡ true }
-    ensures { IfOk result (λ word. word ≡ name.now) }
+/// The name of these bytes.
+pub fn name_of(alloc: Global, bytes: &[u8]) -> Result<Name, NoMemory>
+    requires { is_name bytes.now ≡ true }
+    ensures { IfOk result (λ name. name ≡ bytes.now) }
 {
-    match str::from_utf8(name) {
-        Ok(text) => Word::make(alloc, text),
-        Err(_) => unreachable!(),
-    }
+    Ok(Name::make(alloc, bytes)?)
 }

@@ -2,14 +2,18 @@
 ghost use Rattle.std.specs.Prelude.{◌≡◌, ℕ, List, [], ◌∷◌, ◌++◌, IfOk, OnOk, codes};
 ghost use Rattle.std.specs.Io.KnownBytes.{Appends};
 ghost use Rattle.rx_io.specs.Faults.{HasRisen};
-ghost use Rattle.rx_program.specs.Refusals.{number_of, label_of, place_text, refusal_text};
-ghost use Rattle.rx_program.specs.Outcome.{status_of, file_of, refused_text, IsText, IsShown, Prints, member_text, others_text, object_text};
+ghost use Rattle.std.specs.Str.{IsAscii};
+ghost use Rattle.rx_program.specs.Refusals.{number_of, label_of, place_text, refusal_text, rule_name, breach_text};
+ghost use Rattle.rx_program.specs.Outcome.{status_of, file_of, refused_text, unsupported_text, broken_text, reason_name, name_text, stuck_text, IsText, IsShown, Prints};
 
-use crate::answer::{Answer, Decoding, Member};
+use crate::answer::{Answer, Decoding};
+use crate::fault::NoMemory;
 use crate::refusal::{Cause, Refusal};
 use crate::status::Status;
 use rx_io::{Sink, write_all};
-use rx_syntax::{NoMemory, Place, Word};
+use rx_judge::Refusal as Breach;
+use rx_syntax::{Place, Word};
+use rx_types::{Name, Reason};
 use std::alloc::Global;
 
 // Puts bytes at the end.
@@ -28,43 +32,6 @@ fn put_both(line: &mut Vec<u8>, first: &[u8], second: &[u8]) -> Result<(), NoMem
     put(line, second)
 }
 
-// Puts a member at the end.
-fn put_member(alloc: Global, line: &mut Vec<u8>, member: &Member) -> Result<(), NoMemory>
-    ensures { OnOk result (line.new.items ≡ line.old.items ++ member_text member.now) }
-{
-    put(line, b"\"")?;
-    put(line, member.name.as_str().as_bytes())?;
-    put(line, b"\":")?;
-    put(line, member.value.to_string(alloc)?.as_bytes())
-}
-
-// Puts members at the end, each after a comma.
-fn put_others(alloc: Global, line: &mut Vec<u8>, others: &[Member]) -> Result<(), NoMemory>
-    ensures { OnOk result (line.new.items ≡ line.old.items ++ others_text others.now) }
-{
-    for member in others {
-        put(line, b",")?;
-        put_member(alloc, line, member)?;
-    }
-    Ok(())
-}
-
-// One object of the members.
-fn object(alloc: Global, members: &[Member]) -> Result<Vec<u8>, NoMemory>
-    ensures { IfOk result (λ text. text.items ≡ object_text members.now) }
-{
-    let mut line = Vec::new(alloc);
-    put(&mut line, b"{")?;
-    if let [first, others @ ..] = members {
-        put_member(alloc, &mut line, first)?;
-        put_others(alloc, &mut line, others)?;
-        put(&mut line, b"}")?;
-        return Ok(line);
-    }
-    put(&mut line, b"}")?;
-    Ok(line)
-}
-
 // A line of these parts.
 fn line_of(alloc: Global, front: &[u8], middle: &[u8], back: &[u8]) -> Result<Vec<u8>, NoMemory>
     ensures { IfOk result (λ text. text.items ≡ front.now ++ middle.now ++ back.now ++ 10 ∷ []) }
@@ -78,27 +45,20 @@ fn line_of(alloc: Global, front: &[u8], middle: &[u8], back: &[u8]) -> Result<Ve
 }
 
 // The file of a package.
-fn file_of(alloc: Global, name: &Word) -> Result<Vec<u8>, NoMemory>
+fn file_of(alloc: Global, name: &Name) -> Result<Vec<u8>, NoMemory>
     ensures { IfOk result (λ file. file.items ≡ file_of name.now) }
 {
-    let lower = name.as_str().to_ascii_lowercase(alloc)?;
-    let mut file = Vec::new(alloc);
-    put(&mut file, lower.as_bytes())?;
+    let mut file = name.bytes().to_ascii_lowercase(alloc)?;
     put(&mut file, b".rflx")?;
     Ok(file)
 }
 
 // The line of a name that a package lacks, or that is no package's.
-fn unknown(alloc: Global, name: &Word, lacking: &Word) -> Result<Vec<u8>, NoMemory>
+fn unknown(alloc: Global, name: &Name, lacking: &Name) -> Result<Vec<u8>, NoMemory>
     ensures { IfOk result (λ text. text.items ≡ file_of name.now ++ codes ": 8 UnknownName " ++ lacking.now ++ 10 ∷ []) }
 {
     let file = file_of(alloc, name)?;
-    line_of(
-        alloc,
-        &file,
-        b": 8 UnknownName ",
-        lacking.as_str().as_bytes(),
-    )
+    line_of(alloc, &file, b": 8 UnknownName ", lacking.bytes())
 }
 
 // The number of a cause.
@@ -157,7 +117,7 @@ fn refusal_text(alloc: Global, refusal: &Refusal) -> Result<Vec<u8>, NoMemory>
 }
 
 // The line of a package whose text is refused.
-fn refused(alloc: Global, name: &Word, refusal: &Refusal) -> Result<Vec<u8>, NoMemory>
+fn refused(alloc: Global, name: &Name, refusal: &Refusal) -> Result<Vec<u8>, NoMemory>
     ensures { IfOk result (λ text. text.items ≡ refused_text name.now refusal.now) }
 {
     let file = file_of(alloc, name)?;
@@ -165,12 +125,114 @@ fn refused(alloc: Global, name: &Word, refusal: &Refusal) -> Result<Vec<u8>, NoM
     line_of(alloc, &file, b":", &text)
 }
 
-// The line of a package that has forms that are not decoded yet, and whose name stands at the place.
-fn later(alloc: Global, name: &Word, place: Place) -> Result<Vec<u8>, NoMemory>
-    ensures { IfOk result (λ text. IsText (Answer.Later name.now place) text.items) }
+// The line of a form that is not served yet, and which is told by this word.
+fn unsupported(alloc: Global, name: &Name, place: Place, word: &str) -> Result<Vec<u8>, NoMemory>
+    requires { IsAscii word.now }
+    ensures { IfOk result (λ text. text.items ≡ unsupported_text name.now place word.now) }
 {
-    let cause = Cause::Unsupported(Word::make(alloc, "Later")?);
+    let cause = Cause::Unsupported(Word::make(alloc, word)?);
     refused(alloc, name, &Refusal { place, cause })
+}
+
+// The name of a rule.
+fn rule_name(number: u8) -> &'static str
+    ensures { result.now ≡ rule_name number }
+{
+    if number == 6 {
+        return "TooDeep";
+    }
+    if number == 8 {
+        return "UnknownName";
+    }
+    if number == 9 {
+        return "NameClash";
+    }
+    if number == 10 {
+        return "WrongType";
+    }
+    if number == 11 {
+        return "NotStatic";
+    }
+    if number == 12 {
+        return "NotLinear";
+    }
+    if number == 13 {
+        return "TooWide";
+    }
+    if number == 14 {
+        return "MissingSize";
+    }
+    if number == 16 {
+        return "Cycle";
+    }
+    if number == 17 {
+        return "OverlayMixed";
+    }
+    if number == 18 {
+        return "FirstForm";
+    }
+    if number == 19 {
+        return "OrderSize";
+    }
+    if number == 20 {
+        return "BadRange";
+    }
+    "GraphLimit"
+}
+
+// The text of a rule that is broken.
+fn breach_text(alloc: Global, breach: &Breach) -> Result<Vec<u8>, NoMemory>
+    ensures { IfOk result (λ text. text.items ≡ breach_text breach.now) }
+{
+    let mut text = Vec::new(alloc);
+    put_place(alloc, &mut text, breach.place)?;
+    put(&mut text, b": ")?;
+    put(&mut text, breach.number.to_string(alloc)?.as_bytes())?;
+    put(&mut text, b" ")?;
+    put(&mut text, rule_name(breach.number).as_bytes())?;
+    put(&mut text, b" ")?;
+    put(&mut text, breach.name.as_str().as_bytes())?;
+    Ok(text)
+}
+
+// The line of a package whose text breaks a rule.
+fn broken(alloc: Global, name: &Name, breach: &Breach) -> Result<Vec<u8>, NoMemory>
+    ensures { IfOk result (λ text. text.items ≡ broken_text name.now breach.now) }
+{
+    let file = file_of(alloc, name)?;
+    let text = breach_text(alloc, breach)?;
+    line_of(alloc, &file, b":", &text)
+}
+
+// The name of a reason.
+fn reason_name(reason: Reason) -> &'static str
+    ensures { result.now ≡ reason_name reason }
+{
+    match reason {
+        Reason::Condition => "Condition",
+        Reason::Trailing => "Trailing",
+        Reason::Short => "Short",
+        Reason::Value => "Value",
+    }
+}
+
+// A space and the name, if there is one.
+fn name_text(alloc: Global, name: &Option<Name>) -> Result<Vec<u8>, NoMemory>
+    ensures { IfOk result (λ text. text.items ≡ name_text name.now) }
+{
+    let mut text = Vec::new(alloc);
+    if let Some(name) = name {
+        put_both(&mut text, b" ", name.bytes())?;
+    }
+    Ok(text)
+}
+
+// The line of an input that no path fits.
+fn stuck(alloc: Global, reason: Reason, name: &Option<Name>) -> Result<Vec<u8>, NoMemory>
+    ensures { IfOk result (λ text. text.items ≡ stuck_text reason name.now) }
+{
+    let name = name_text(alloc, name)?;
+    line_of(alloc, b"refused: ", reason_name(reason).as_bytes(), &name)
 }
 
 // The status of an answer.
@@ -184,13 +246,15 @@ fn status_of(answer: &Answer) -> Status
         Answer::TextLimit(_) => Status::Limit,
         Answer::Refused(_, _) => Status::Specification,
         Answer::PackageLimit => Status::Limit,
-        Answer::Later(_, _) => Status::Specification,
+        Answer::Unserved(_, _) => Status::Specification,
+        Answer::Broken(_, _) => Status::Specification,
         Answer::NoMessage(_, _) => Status::Specification,
+        Answer::Branching(_, _) => Status::Specification,
+        Answer::Unchecked(_, _) => Status::Specification,
         Answer::SourceFault => Status::SourceFault,
         Answer::InputLimit => Status::Limit,
-        Answer::Input(Decoding::Decoded(_)) => Status::Done,
-        Answer::Input(Decoding::Short(_)) => Status::InputRefused,
-        Answer::Input(Decoding::Trailing(_)) => Status::InputRefused,
+        Answer::Input(Decoding::Json(_)) => Status::Done,
+        Answer::Input(Decoding::Stuck(_, _)) => Status::InputRefused,
     }
 }
 
@@ -199,17 +263,8 @@ fn input_text(alloc: Global, decoding: &Decoding) -> Result<Vec<u8>, NoMemory>
     ensures { IfOk result (λ text. IsText (Answer.Input decoding.now) text.items) }
 {
     match decoding {
-        Decoding::Decoded(members) => {
-            let text = object(alloc, members.as_slice())?;
-            line_of(alloc, b"", &text, b"")
-        }
-        Decoding::Short(name) => line_of(alloc, b"refused: Short ", name.as_str().as_bytes(), b""),
-        Decoding::Trailing(name) => line_of(
-            alloc,
-            b"refused: Trailing ",
-            name.as_str().as_bytes(),
-            b"",
-        ),
+        Decoding::Json(json) => line_of(alloc, b"", json, b""),
+        Decoding::Stuck(reason, name) => stuck(alloc, *reason, name),
     }
 }
 
@@ -232,8 +287,13 @@ fn text_of(alloc: Global, answer: &Answer) -> Result<Vec<u8>, NoMemory>
         }
         Answer::Refused(name, refusal) => refused(alloc, name, refusal),
         Answer::PackageLimit => line_of(alloc, b"limit: packages", b"", b""),
-        Answer::Later(name, place) => later(alloc, name, *place),
+        Answer::Unserved(name, unserved) => {
+            unsupported(alloc, name, unserved.place, unserved.form.word())
+        }
+        Answer::Broken(name, breach) => broken(alloc, name, breach),
         Answer::NoMessage(name, message) => unknown(alloc, name, message),
+        Answer::Branching(name, place) => unsupported(alloc, name, *place, "Branching"),
+        Answer::Unchecked(name, place) => unsupported(alloc, name, *place, "Unchecked"),
         Answer::SourceFault => line_of(alloc, b"fault: source", b"", b""),
         Answer::InputLimit => line_of(alloc, b"limit: input", b"", b""),
         Answer::Input(decoding) => input_text(alloc, decoding),

@@ -2,8 +2,9 @@
 ghost use Rattle.std.specs.Prelude.{◌≡◌, IfOk, Some};
 ghost use Rattle.rx_program.specs.Refusals.{lexer_refusal, parser_refusal};
 
+use crate::fault::NoMemory;
 use rx_grammar::SyntaxFault;
-use rx_syntax::{LexFault, NoMemory, Place, Word};
+use rx_syntax::{LexFault, Place, Word};
 
 /// Why a text is refused.
 #[derive(Debug, Drop)]

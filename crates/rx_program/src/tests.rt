@@ -109,68 +109,122 @@ fn decodes_the_pair_or_says_why_not(rt: HostRuntime) -> Result<(), Fail> {
     Ok(())
 }
 
+// The text, the input, the status of `decode P::M` where the text of P is that one, and what is written.
+const SERVED: [(&[u8], &[u8], Status, &[u8]); 5] = [
+    (
+        b"package P is type A is unsigned 1; type B is unsigned 63; type M is message Y : A; X : B; end message; end P;",
+        b"\x80\0\0\0\0\0\0\x05",
+        Status::Done,
+        b"{\"X\":5,\"Y\":1}\n",
+    ),
+    (
+        b"package p is -- a comment\n type A is unsigned 8; type M is message a : a; end message; end P;",
+        b"\x07",
+        Status::Done,
+        b"{\"a\":7}\n",
+    ),
+    (
+        b"package P is type M is null message; end P;",
+        b"",
+        Status::Done,
+        b"{}\n",
+    ),
+    (
+        b"package P is type M is null message; end P;",
+        b"x",
+        Status::InputRefused,
+        b"refused: Trailing\n",
+    ),
+    (
+        b"package P is type B is unsigned 16; type M is message L : B; end message with Byte_Order => Low_Order_First; end P;",
+        b"\x34\x12",
+        Status::Done,
+        b"{\"L\":4660}\n",
+    ),
+];
+
 #[test]
-fn serves_just_chains_of_1_to_63_bits(rt: HostRuntime) -> Result<(), Fail> {
-    // the text of package P, the input, the status of `decode P::M`, what is written
-    let cases: [(&[u8], &[u8], Status, &[u8]); 9] = [
+fn serves_chains_of_1_to_63_bits_in_both_orders(rt: HostRuntime) -> Result<(), Fail> {
+    for (text, input, status, written) in SERVED {
+        let (given, line) = decoded(rt.alloc(), "p", text, "P::M", input)?;
+        assert_eq!(rt; given, status);
+        assert_eq!(rt; line.as_slice(), written);
+    }
+    Ok(())
+}
+
+const BOX: &[u8] =
+    b"package P is type K is (Off, On) with Size => 8; type M is message K : K if K = On; L : A; D : Opaque with Size => L * 8; R : Opaque; end message; type A is range 0 .. 9 with Size => 8; end P;";
+
+#[test]
+fn serves_enumerations_conditions_and_bytes(rt: HostRuntime) -> Result<(), Fail> {
+    // the input, the status, what is written
+    let cases: [(&[u8], Status, &[u8]); 4] = [
         (
-            b"package P is type A is unsigned 1; type B is unsigned 63; type M is message Y : A; X : B; end message; end P;",
-            b"\x80\0\0\0\0\0\0\x05",
+            b"\x01\x02\x0a\x0b\x0c",
             Status::Done,
-            b"{\"X\":5,\"Y\":1}\n",
+            b"{\"D\":\"0a0b\",\"K\":\"On\",\"L\":2,\"R\":\"0c\"}\n",
         ),
+        (b"\x00\x00", Status::InputRefused, b"refused: Condition K\n"),
+        (b"\x02", Status::InputRefused, b"refused: Value K\n"),
+        (b"\x01\x02\x0a", Status::InputRefused, b"refused: Short D\n"),
+    ];
+    for (input, status, written) in cases {
+        let (given, line) = decoded(rt.alloc(), "p", BOX, "P::M", input)?;
+        assert_eq!(rt; given, status);
+        assert_eq!(rt; line.as_slice(), written);
+    }
+    Ok(())
+}
+
+#[test]
+fn refuses_what_breaks_a_rule_or_is_not_served(rt: HostRuntime) -> Result<(), Fail> {
+    // the text of P, what is written
+    let cases: [(&[u8], &[u8]); 10] = [
         (
-            b"package p is -- a comment\n type A is unsigned 8; type M is message a : a; end message; end P;",
-            b"\x07",
-            Status::Done,
-            b"{\"a\":7}\n",
-        ),
-        (
-            b"package P is type A is unsigned 64; type M is message Y : A; end message; end P;",
-            b"",
-            Status::Specification,
-            b"p.rflx:1:9: 7 Unsupported Later\n",
-        ),
-        (
-            b"package P is type A is unsigned 0; type M is message Y : A; end message; end P;",
-            b"",
-            Status::Specification,
-            b"p.rflx:1:9: 7 Unsupported Later\n",
-        ),
-        (
-            b"package P is type A is unsigned 7; type M is message Y : A; end message; end P;",
-            b"",
-            Status::Specification,
-            b"p.rflx:1:9: 7 Unsupported Later\n",
+            b"package P is type A is unsigned 64; end P;",
+            b"p.rflx:1:19: 20 BadRange A\n",
         ),
         (
             b"package P is type A is unsigned 8; type M is message Y : A; y : A; end message; end P;",
-            b"",
-            Status::Specification,
-            b"p.rflx:1:9: 7 Unsupported Later\n",
+            b"p.rflx:1:61: 9 NameClash y\n",
         ),
         (
-            b"package P is type A is unsigned 8; type a is unsigned 8; type M is message Y : A; end message; end P;",
-            b"",
-            Status::Specification,
-            b"p.rflx:1:9: 7 Unsupported Later\n",
+            b"package P is type A is unsigned 8; type M is message Y : B; end message; end P;",
+            b"p.rflx:1:58: 8 UnknownName B\n",
         ),
         (
-            b"package P is type M is message Y : A; end message; type A is unsigned 8; end P;",
-            b"",
-            Status::Specification,
-            b"p.rflx:1:9: 7 Unsupported Later\n",
+            b"with Q; package P is end P;",
+            b"p.rflx:1:6: 8 UnknownName Q\n",
         ),
         (
-            b"package P is type A is unsigned 8; type M is message Message : A; end message; end P;",
-            b"",
-            Status::Specification,
-            b"p.rflx:1:9: 7 Unsupported Later\n",
+            b"package P is type A is unsigned 8; type S is sequence of A; type A is unsigned 8; end P;",
+            b"p.rflx:1:36: 7 Unsupported sequence\n",
+        ),
+        (
+            b"package P is type A is unsigned 8; for M use (F => N); type N is new M; end P;",
+            b"p.rflx:1:36: 7 Unsupported for\n",
+        ),
+        (
+            b"package P is type A is unsigned 8; type N is new M; type S is sequence of A; end P;",
+            b"p.rflx:1:36: 7 Unsupported new\n",
+        ),
+        (
+            b"package P is type A is unsigned 8; type M is message X : A then Y with First => X'First; Y : A; end message; end P;",
+            b"p.rflx:1:72: 7 Unsupported First\n",
+        ),
+        (
+            b"package P is type A is unsigned 8; type M is message X : A then Y if X = 1 then null; Y : A; end message; end P;",
+            b"p.rflx:1:81: 7 Unsupported Branching\n",
+        ),
+        (
+            b"package P is type A is unsigned 7; type M is message Y : A; end message; end P;",
+            b"p.rflx:1:41: 7 Unsupported Unchecked\n",
         ),
     ];
-    for (text, input, status, written) in cases {
-        let (given, line) = decoded(rt.alloc(), "p", text, "P::M", input)?;
-        assert_eq!(rt; given, status);
+    for (text, written) in cases {
+        let (given, line) = decoded(rt.alloc(), "p", text, "P::M", b"")?;
+        assert_eq!(rt; given, Status::Specification);
         assert_eq!(rt; line.as_slice(), written);
     }
     Ok(())
@@ -216,7 +270,7 @@ fn serves_128_fields_and_no_more(rt: HostRuntime) -> Result<(), Fail> {
     assert_eq!(rt; status, Status::Specification);
     assert_eq!(rt;
         line.as_slice(),
-        b"p.rflx:1:9: 7 Unsupported Later\n".as_slice()
+        b"p.rflx:1:41: 21 GraphLimit M\n".as_slice()
     );
     Ok(())
 }

@@ -43,18 +43,6 @@ fn tells_the_place_of_a_fault(rt: HostRuntime) -> Result<(), Fail> {
 }
 
 #[test]
-fn a_tree_that_is_not_decoded_yet_is_refused(rt: HostRuntime) -> Result<(), Fail> {
-    let text = b"package Q is type B is range 0 .. 1 with Size => 8; end Q;";
-    let (status, written) = of_text(rt.alloc(), text)?;
-    assert_eq!(rt; status, Status::Specification);
-    assert_eq!(rt;
-        written.as_slice(),
-        b"q.rflx:1:9: 7 Unsupported Later\n".as_slice()
-    );
-    Ok(())
-}
-
-#[test]
 fn token_262_145_is_refused(rt: HostRuntime) -> Result<(), Fail> {
     let text = vec![in rt.alloc(); 59u8; 262145]?;
     let (status, written) = of_text(rt.alloc(), &text)?;

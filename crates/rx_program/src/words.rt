@@ -3,15 +3,16 @@ ghost use Rattle.std.specs.Prelude.{◌≡◌, ℕ, List, IfOk, IfSome, IfNone, 
 ghost use Rattle.std.specs.List.{prefix_len};
 ghost use Rattle.rx_program.specs.Words.{is_no_colon, IsOperand, IsDecode, HaveNoForm};
 
-use crate::names::{is_name, word_of};
-use rx_syntax::{NoMemory, Word};
+use crate::fault::NoMemory;
+use crate::names::{is_name, name_of};
+use rx_types::Name;
 use std::alloc::Global;
 
 /// A message of a package.
 #[derive(Debug, Drop)]
 pub struct Operand {
-    pub name: Word,
-    pub message: Word,
+    pub name: Name,
+    pub message: Name,
 }
 
 // The message that a word names.
@@ -35,8 +36,8 @@ fn operand_of(alloc: Global, word: &[u8]) -> Result<Option<Operand>, NoMemory>
         return Ok(None);
     }
     Ok(Some(Operand {
-        name: word_of(alloc, name)?,
-        message: word_of(alloc, message)?,
+        name: name_of(alloc, name)?,
+        message: name_of(alloc, message)?,
     }))
 }
 

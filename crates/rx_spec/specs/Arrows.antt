@@ -1,14 +1,18 @@
 -- The links of a message, with the conditions and aspects of its text.
 --   both c d                  both conditions, as far as they are written
+--   place_of_way name m w     where its target is named
 --   arrow_of_way name m ps w  link w of message m, where ps is what is written of it
 use Rattle.std.specs.Prelude.{ℕ, true, List, [], Option, Some, None, slice_get}
 use Rattle.std.specs.Option.{option_or}
+use Rattle.rx_syntax.specs.declared.token.Place.{Place}
 use Rattle.rx_syntax.specs.declared.tree.Named.{Named}
+use Rattle.rx_syntax.specs.declared.tree.FieldTree.{FieldTree}
+use Rattle.rx_syntax.specs.declared.tree.ThenTree.{ThenTree}
 use Rattle.rx_syntax.specs.declared.tree.MessageTree.{MessageTree}
 use Rattle.rx_types.specs.declared.expr.Operator.TheVariants as op
 use Rattle.rx_types.specs.Tree.{Tree, Truth, Binary}
 use Rattle.rx_graph.specs.Graph.{Arrow}
-use Rattle.rx_links.specs.Cycle.{node_of, told_of_way}
+use Rattle.rx_links.specs.Cycle.{node_of, clauses_of, clause_of, told_by_field}
 use Rattle.rx_links.specs.declared.links.Stop.{Stop}
 use Rattle.rx_links.specs.declared.links.Stop.TheVariants as stop
 use Rattle.rx_links.specs.declared.links.Way.{Way}
@@ -53,6 +57,14 @@ both None (Some d) = d
 both (Some c) None = c
 both (Some c) (Some d) = Binary op.And c d
 
+-- where the clause of a link names its target, or where that is declared, if the link has no clause
+abbrev pub place_at : Named → List FieldTree → Stop → Option ThenTree → Place
+place_at name fields target None = (told_by_field name fields target).place
+place_at name fields target (Some t) = t.place
+
+abbrev pub place_of_way : Named → MessageTree → Way → Place
+place_of_way name m w = place_at name m.fields.items w.target (clause_of (clauses_of m.start.items m.fields.items w.source) w.clause)
+
 -- The condition of its source and its own, and its own aspects or else those of its target.
 abbrev pub arrow_of_way : Named → MessageTree → MessageParts → Way → Arrow
 arrow_of_way name m ps w =
@@ -62,5 +74,5 @@ arrow_of_way name m ps w =
       condition = both (own_parts ps w.source).condition (clause_parts ps w).condition;
       first = option_or (clause_parts ps w).first (own_parts ps w.target).first;
       size = option_or (clause_parts ps w).size (own_parts ps w.target).size;
-      place = (told_of_way name m.start.items m.fields.items w).place;
+      place = place_of_way name m w;
     }

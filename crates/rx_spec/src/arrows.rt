@@ -4,9 +4,9 @@ ghost use Rattle.std.specs.Prelude.{◌≡◌, ◌^◌, IfOk, map};
 ghost use Rattle.std.specs.Option.{option_copied, option_or};
 ghost use Rattle.rx_types.specs.Tree.{tree_of, tree_if_any};
 ghost use Rattle.rx_graph.specs.Graph.{arrow_of, arrows};
-ghost use Rattle.rx_links.specs.Cycle.{IsStop, AreWithin, clauses_of, clause_of, told_of_field, told_by_field, told_at, told_of_way, node_of};
+ghost use Rattle.rx_links.specs.Cycle.{IsStop, AreWithin, clauses_of, clause_of, told_of_field, told_by_field, node_of};
 ghost use Rattle.rx_elab.specs.Parts.{parts_of, message_parts_of};
-ghost use Rattle.rx_spec.specs.Arrows.{own_parts, thens_of, clause_in, clause_parts, both, arrow_of_way};
+ghost use Rattle.rx_spec.specs.Arrows.{own_parts, thens_of, clause_in, clause_parts, both, place_at, place_of_way, arrow_of_way};
 ghost use Rattle.rx_spec.specs.Kept.{parts_kept};
 
 use rx_elab::{MessageParts, Parts};
@@ -185,20 +185,17 @@ fn place_of_field(name: &Named, fields: &[FieldTree], target: Stop) -> Place
 }
 
 fn place_at(name: &Named, fields: &[FieldTree], target: Stop, clause: Option<&ThenTree>) -> Place
-    ensures { result ≡ (told_at name.now fields.now target (option_copied clause.entry)).place }
+    ensures { result ≡ place_at name.now fields.now target (option_copied clause.entry) }
 {
     match clause {
         None => place_of_field(name, fields, target),
-        Some(clause) => match &clause.target {
-            Some(_) => clause.place,
-            None => place_of_field(name, fields, target),
-        },
+        Some(clause) => clause.place,
     }
 }
 
 // The place where the link's target is named.
 fn place_of(name: &Named, start: &[ThenTree], fields: &[FieldTree], way: Way) -> Place
-    ensures { result ≡ (told_of_way name.now start.now fields.now way).place }
+    ensures { result ≡ place_at name.now fields.now way.target (clause_of (clauses_of start.now fields.now way.source) way.clause) }
 {
     let clause = clause_of(clauses_of(start, fields, way.source), way.clause);
     place_at(name, fields, way.target, clause)

@@ -1,12 +1,16 @@
-use Rattle.std.proofs.Common.{◌+◌, ◌≤◌, length, map, refl}
+use Rattle.std.proofs.Common.{◌+◌, ◌≤◌, length, map, refl, sym, subst}
 use Rattle.std.proofs.lemmas.Result.{err_from_is_err_and}
 use Rattle.rx_syntax.specs.declared.tree.Named.{Named}
+use Rattle.rx_types.specs.Names.{IsName}
 use Rattle.rx_program.specs.Closure.{added, added_one}
 use Rattle.rx_program.proofs.ClosureLemmas.{added-next, added-front, too_many_more}
 use Rattle.rx_program.proofs.closure.add.Goals as goal
 
 pub add_one-requires : goal.add_one-requires
-add_one-requires c = c.loop-named.invariant.few
+add_one-requires c = record {
+  few = c.loop-named.invariant.few;
+  named = subst (λ (n : Named). IsName n.word) (sym c.named-item.is) (c.requires.named c.loop-named.named-index c.named-item.result c.loop-named-test.true);
+}
 
 pub loop-named-preserved : goal.loop-named-preserved
 loop-named-preserved c = record {

@@ -2,7 +2,11 @@ use Rattle.std.proofs.lemmas.Result.{err_from_is_err_and}
 use Rattle.rx_program.specs.Closure.{IsRefused}
 use Rattle.rx_program.specs.Stop.{IsOfLexer, IsOfParser}
 use Rattle.rx_program.proofs.ClosureLemmas.{refused_for, lexer_refuses, parser_refuses}
+use Rattle.rx_program.proofs.NameLemmas.{withs_named}
 use Rattle.rx_program.proofs.closure.parse.Goals as goal
+
+pub returns-clause-named : goal.returns-clause-named
+returns-clause-named c = withs_named c.args.text.now c.in_ok-tokens.tokens.items.items c.in_ok-tokens.tokens.end c.in_ok-tree.tree c.in_ok-tokens.ensures.tokens c.in_ok-tree.ensures.tree
 
 pub returns-in_err-tokens-clause-refused : goal.returns-in_err-tokens-clause-refused
 returns-in_err-tokens-clause-refused c =

@@ -1,7 +1,7 @@
-use Rattle.std.proofs.Common.{◌-◌, ◌<◌, ◌≤◌, length, IfSome}
+use Rattle.std.proofs.Common.{◌-◌, ◌<◌, ◌≤◌, length, take, IfSome}
 use Rattle.rx_io.specs.Shelf.{SameTexts}
-use Rattle.rx_program.specs.Closure.{package_limit}
-use Rattle.rx_program.proofs.ClosureLemmas.{IsWalkedFrom}
+use Rattle.rx_program.specs.Closure.{package_limit, ArePaired}
+use Rattle.rx_program.proofs.ClosureLemmas.{IsWalkedFrom, AreFetchedFrom}
 use Rattle.rx_program.proofs.closure.walk.Given as goal
 
 -- the walk so far
@@ -11,6 +11,8 @@ invariant-loop-k g l = record {
   within : l.k ≤ length l.names.items;
   few : length l.names.items ≤ package_limit;
   walked : IfSome (g.H.Shelf.texts l.fn.shelf) (λ texts. IsWalkedFrom texts l.fn.names.items l.k l.names.items);
+  fetched : IfSome (g.H.Shelf.texts l.fn.shelf) (λ texts. AreFetchedFrom texts (take 1 l.fn.names.items) l.fn.packages.asked.items l.fn.packages.trees.items (take l.k l.names.items) l.packages.asked.items l.packages.trees.items);
+  paired : ArePaired l.packages.asked.items l.packages.trees.items;
   same : SameTexts (g.H.Shelf.texts l.fn.shelf) (g.H.Shelf.texts l.shelf);
   faults : g.H.Shelf.faults l.fn.shelf ≤ g.H.Shelf.faults l.shelf;
 }

@@ -40,16 +40,16 @@ returns-clause-some c =
     let within : at + 2 ≤ length word = omega arith in
     let second : get_or word (at + 1) 0 ≡ 58 = grind arith in
     let parts = parts_at word at c.name_length-at.ensures.length within second in
-    let name : c.in_ok-word_of.field-0 ≡ take at word = grind (arith, common_steps) in
-    let message : c.in_ok-word_of-2.field-0 ≡ drop (at + 2) word = c.in_ok-word_of-2.ensures ∙ take_rest word (at + 2) in
+    let name : c.in_ok-name_of.field-0 ≡ take at word = grind (arith, common_steps) in
+    let message : c.in_ok-name_of-2.field-0 ≡ drop (at + 2) word = c.in_ok-name_of-2.ensures ∙ take_rest word (at + 2) in
     record {
       parts = rw (name, message) parts;
-      name_is = rw c.in_ok-word_of.ensures (sym c.is_name.ensures ∙ c.if-not-is_name.false);
-      item_is = rw c.in_ok-word_of-2.ensures (sym c.is_name-2.ensures ∙ c.if-not-is_name-2.false);
+      name_is = rw c.in_ok-name_of.ensures (sym c.is_name.ensures ∙ c.if-not-is_name.false);
+      item_is = rw c.in_ok-name_of-2.ensures (sym c.is_name-2.ensures ∙ c.if-not-is_name-2.false);
     }
 
-pub word_of-requires : goal.word_of-requires
-word_of-requires c = sym c.is_name.ensures ∙ c.if-not-is_name.false
+pub name_of-requires : goal.name_of-requires
+name_of-requires c = sym c.is_name.ensures ∙ c.if-not-is_name.false
 
-pub word_of-requires-2 : goal.word_of-requires-2
-word_of-requires-2 c = sym c.is_name-2.ensures ∙ c.if-not-is_name-2.false
+pub name_of-requires-2 : goal.name_of-requires-2
+name_of-requires-2 c = sym c.is_name-2.ensures ∙ c.if-not-is_name-2.false

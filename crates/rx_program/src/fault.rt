@@ -1,0 +1,42 @@
+//! Want of memory.
+use std::alloc::{AllocError, AllocFailed};
+
+/// Want of memory.
+#[derive(Clone, Copy, Debug, PartialEq, Eq)]
+pub struct NoMemory;
+
+impl From<AllocError> for NoMemory {
+    fn from(_: AllocError) -> Self {
+        NoMemory
+    }
+}
+
+impl<T: Drop> From<AllocFailed<T>> for NoMemory {
+    fn from(_: AllocFailed<T>) -> Self {
+        NoMemory
+    }
+}
+
+impl From<rx_syntax::NoMemory> for NoMemory {
+    fn from(_: rx_syntax::NoMemory) -> Self {
+        NoMemory
+    }
+}
+
+impl From<rx_types::NoMemory> for NoMemory {
+    fn from(_: rx_types::NoMemory) -> Self {
+        NoMemory
+    }
+}
+
+impl From<rx_context::NoMemory> for NoMemory {
+    fn from(_: rx_context::NoMemory) -> Self {
+        NoMemory
+    }
+}
+
+impl From<rx_decode::NoMemory> for NoMemory {
+    fn from(_: rx_decode::NoMemory) -> Self {
+        NoMemory
+    }
+}
