@@ -9,3 +9,4 @@ pub mod OneAnswer
 pub mod OneHeader
 pub mod OneText
 pub mod OneWalk
+pub mod OneRequest

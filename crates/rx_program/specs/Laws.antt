@@ -2,7 +2,9 @@
 use Rattle.std.specs.Prelude.{◌≡◌, ℕ, List, Bool, true, false}
 use Rattle.rx_io.specs.Shelf.{Texts}
 use Rattle.rx_program.specs.declared.answer.Answer.{Answer}
-use Rattle.rx_program.specs.declared.answer.Answer.TheVariants.{Usage, ShelfFault, NoPackage, TextLimit, Refused, PackageLimit, SourceFault}
+use Rattle.rx_program.specs.declared.answer.Answer.TheVariants.{Usage, ShelfFault, NoPackage, TextLimit, Refused, PackageLimit, SourceFault, Input}
+use Rattle.rx_program.specs.declared.answer.Decoding.TheVariants.{Json}
+use Rattle.rx_program.specs.Request.{Request, AnswersTo}
 use Rattle.rx_program.specs.Answers.{Answers}
 
 -- a fault of the shelf or the source, which may take the place of another answer
@@ -24,3 +26,12 @@ IsEnd _ = ⊥
 abbrev pub OneEnd : Type 0
 OneEnd = (words : List (List ℕ)) (texts : Texts) (input : List ℕ) (one other : Answer) → IsEnd one → is_fault other ≡ false
     → Answers words texts input one → Answers words texts input other → one ≡ other
+
+-- the same answer; of JSON the same bytes
+abbrev pub IsSame : Answer → Answer → Type 0
+IsSame (Input (Json one)) (Input (Json other)) = one.items ≡ other.items
+IsSame one other = one ≡ other
+
+-- but for faults, who asks for a message of these packages has one answer to an input
+abbrev pub OneOfPackages : Type 0
+OneOfPackages = (r : Request) (input : List ℕ) (one other : Answer) → is_fault one ≡ false → is_fault other ≡ false → AnswersTo r input one → AnswersTo r input other → IsSame one other
