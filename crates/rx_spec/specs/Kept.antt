@@ -31,48 +31,59 @@ use Rattle.rx_spec.specs.declared.fault.Told.{Told}
 use Rattle.rx_spec.specs.declared.fault.SpecFault.{SpecFault}
 use Rattle.rx_spec.specs.declared.fault.SpecFault.TheVariants.{Refused, NoMemory}
 
+-- what is written, if anything
 abbrev pub parts_kept : Option code.Parts → Parts
 parts_kept None = no_parts
 parts_kept (Some p) = parts_of p
 
+-- fields and links
 abbrev pub body_kept : code_body.Body → Body
 body_kept b = record { fields = b.fields.items; links = arrows b.links.items }
 
+-- the links of the paths from the start to null
 abbrev pub paths_onward : Graph → List (List ℕ)
 paths_onward m = onward m.links (length m.links) Null Start
 
+-- the last two steps of ways_stand
 abbrev pub paths_and_few : Named → MessageTree → List Way → Meaning (Unit {0})
 paths_and_few name m ways = do
   w ← paths_stand name ways
   few_stand name m
 
+-- the steps of ways_stand behind no_cycle
 abbrev pub counted_ways : Named → MessageTree → List Way → Meaning (Unit {0})
 counted_ways name m ways = do
   v ← counts_stand name (length m.fields.items) (length ways)
   paths_and_few name m ways
 
+-- what is written of a message, where its fields hold hs
 abbrev pub parts_meant : Types → HeaderTree → Named → MessageTree → List Held → Meaning MessageParts
 parts_meant t h name m hs = message_parts (scope_in t h hs m) name.word m
 
+-- the steps of body_of behind the shape
 abbrev pub body_shaped : Types → HeaderTree → Named → MessageTree → Shape → Meaning Body
 body_shaped t h name m s = do
   fields ← each_from (field_meant s.held) 0 m.fields.items
   links ← sized_links t h name m s
   Ok (record { fields = fields; links = links })
 
+-- a message without fields
 abbrev pub null_meant : HeaderTree → Named → Meaning Graph
 null_meant h name = graph_named h name (null_body name) false
 
+-- the last step of elaborated, where t has the types
 abbrev pub specified : List PackageTree → Types → Result Specified Told
 specified ps t = do
   gs ← through_from (package_messages_in t) 0 [] ps
   Ok (record { scalars = t.scalars; messages = gs; refinements = [] })
 
+-- the steps of elaborated behind the names
 abbrev pub typed : List PackageTree → Result Specified Told
 typed ps = do
   t ← through_from package_types_in 0 built_in_types ps
   specified ps t
 
+-- the fault of what stands in package i
 abbrev pub fault_in : ℕ → Fault → SpecFault
 fault_in i (fault.Refused r) = Refused (record { «package» = i; refusal = r })
 fault_in i fault.NoMemory = NoMemory
