@@ -5,9 +5,8 @@ use Rattle.rx_io.specs.Shelf.{Texts}
 use Rattle.rx_syntax.specs.declared.token.Place.{Place}
 use Rattle.rx_syntax.specs.declared.tree.PackageTree.{PackageTree}
 use Rattle.rx_types.specs.Domain.{Domain}
-use Rattle.rx_graph.specs.declared.message.Message.{Message}
 use Rattle.rx_graph.specs.declared.spec.Spec.{Spec}
-use Rattle.rx_graph.specs.Graph.{Arrow, Graph, Specified, graph_of, spec_of, domains_of}
+use Rattle.rx_graph.specs.Graph.{Arrow, Graph, Specified, spec_of, domains_of}
 use Rattle.rx_context.specs.Plain.{HasOneLink, IsPlain}
 use Rattle.rx_spec.specs.Laws.{domains_in}
 use Rattle.rx_program.specs.declared.status.Status.{Status}

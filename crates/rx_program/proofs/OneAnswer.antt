@@ -1,5 +1,5 @@
 -- A command that ends before its packages are all read has one answer.
-use Rattle.std.proofs.Common.{◌≡◌, ℕ, ◌⊎◌, inl, inr, Bool, true, false, List, [], ◌∷◌, refl, sym, ap, ◌∙◌, subst}
+use Rattle.std.proofs.Common.{◌≡◌, ℕ, ◌⊎◌, inl, inr, true, false, List, [], ◌∷◌, refl, sym, ap, ◌∙◌, subst}
 use Rattle.std.specs.List.{prefix_len}
 use Rattle.rx_io.specs.Shelf.{Texts}
 use Rattle.rx_syntax.specs.declared.tree.PackageTree.{PackageTree}

@@ -1,14 +1,12 @@
 -- The packages of a request and an input have one answer.
-use Rattle.std.proofs.Common.{◌≡◌, ℕ, ◌<◌, ◌≤◌, ◌⊎◌, inl, inr, true, false, List, length, refl, sym, ap, ◌∙◌, subst, arith, Option, Some, None, Result, Ok, Err}
+use Rattle.std.proofs.Common.{◌≡◌, ℕ, ◌<◌, ◌≤◌, inl, inr, true, false, List, length, refl, sym, ap, ◌∙◌, subst, arith, Option, Some, None, Result, Ok, Err}
 use Rattle.std.specs.Prelude.{slice_get}
 use Rattle.std.proofs.lemmas.Bool.{cases_lt}
-use Rattle.rx_syntax.specs.declared.token.Place.{Place}
 use Rattle.rx_syntax.specs.declared.tree.PackageTree.{PackageTree}
 use Rattle.rx_types.specs.Domain.{Domain}
 use Rattle.rx_types.specs.declared.stuck.Reason.{Reason}
 use Rattle.rx_types.specs.declared.stuck.Stuck as stuck
 use Rattle.rx_judge.specs.declared.fault.Refusal as judge
-use Rattle.rx_graph.specs.Cycles.{IsLink}
 use Rattle.rx_graph.specs.Graph.{Arrow, Graph, Specified}
 use Rattle.rx_context.specs.Plain.{HasOneLink, IsPlain}
 use Rattle.rx_context.proofs.Grid.{exclusive}

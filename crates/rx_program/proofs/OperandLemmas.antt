@@ -1,6 +1,5 @@
 -- The message that is asked for, item by item of lists.
 use Rattle.std.proofs.Common.{◌≡◌, ℕ, ◌+◌, ◌<◌, ◌≤◌, Bool, true, false, List, [], ◌∷◌, length, map, drop, get_or, refl, sym, ap, ◌∙◌, subst, arith, Option, None, Some, if◌then◌else◌}
-use Rattle.std.specs.Prelude.{slice_get}
 use Rattle.std.specs.List.{AllByRecursion}
 use Rattle.std.proofs.lemmas.List.{at_drop_more, at_drop_all}
 use Rattle.rx_syntax.specs.declared.token.Place.{Place}
@@ -14,7 +13,7 @@ use Rattle.rx_graph.specs.Cycles.{IsLink}
 use Rattle.rx_graph.specs.Graph.{Arrow, Graph, graph_of, spec_of, named_domain_of, domains_of}
 use Rattle.rx_context.specs.Plain.{HasLinkBefore, IsPlain}
 use Rattle.rx_spec.specs.Laws.{HasNoFirst, IsSoundSpec, domains_in}
-use Rattle.rx_program.specs.Operand.{is_of, message_in, place_in, place_or, name_place_in}
+use Rattle.rx_program.specs.Operand.{is_of, message_in, place_in, name_place_in}
 
 pub clash : true ≡ false → ⊥
 clash h = cc

@@ -2,7 +2,7 @@
 --   message_in name message ms     message `message` of package `name`
 --   IsSecondLink m i link          link i is the first one that is its node's second
 --   name_place p name              where its name stands in the text of its package
-use Rattle.std.specs.Prelude.{◌≡◌, ℕ, ◌<◌, Bool, ◌&&◌, List, [], ◌∷◌, Option, Some, None, if◌then◌else◌}
+use Rattle.std.specs.Prelude.{ℕ, ◌<◌, Bool, ◌&&◌, List, [], ◌∷◌, Option, Some, None, if◌then◌else◌}
 use Rattle.rx_syntax.specs.declared.token.Place.{Place}
 use Rattle.rx_syntax.specs.declared.tree.PackageTree.{PackageTree}
 use Rattle.rx_syntax.specs.declared.tree.DeclTree.{DeclTree}

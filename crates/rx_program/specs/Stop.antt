@@ -1,7 +1,7 @@
 -- Why a walk through packages ends before all of them are read.
 use Rattle.std.specs.Prelude.{◌≡◌, ℕ, ◌<◌, List, Some, true}
 use Rattle.rx_io.specs.Shelf.{Texts}
-use Rattle.rx_syntax.specs.Text.{AreTokens, IsFault}
+use Rattle.rx_syntax.specs.Text.{IsFault}
 use Rattle.rx_syntax.specs.declared.token.Place.{Place}
 use Rattle.rx_syntax.specs.declared.token.Token.{Token}
 use Rattle.rx_syntax.specs.declared.fault.LexFault.{LexFault}

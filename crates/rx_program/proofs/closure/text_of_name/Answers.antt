@@ -1,6 +1,4 @@
-use Rattle.std.proofs.Common.{◌≡◌, sym}
 use Rattle.std.proofs.lemmas.Str.{IsUtf8-from_ascii}
-use Rattle.rx_types.specs.Names.{IsName}
 use Rattle.rx_program.proofs.NameLemmas.{name_ascii}
 use Rattle.rx_program.proofs.closure.text_of_name.Goals as goal
 

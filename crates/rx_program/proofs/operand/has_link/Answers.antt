@@ -1,4 +1,4 @@
-use Rattle.std.proofs.Common.{true, false, ◌≡◌, refl, sym, ap, ◌∙◌, arith}
+use Rattle.std.proofs.Common.{refl, sym, ap, ◌∙◌, arith}
 use Rattle.rx_graph.specs.Graph.{arrow_of}
 use Rattle.rx_context.proofs.Arrows.{link_at, none_more}
 use Rattle.rx_program.proofs.OperandLemmas.{clash}

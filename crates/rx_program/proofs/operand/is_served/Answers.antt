@@ -1,7 +1,3 @@
-use Rattle.std.proofs.Common.{true}
-use Rattle.rx_context.specs.Plain.{IsPlain}
-use Rattle.rx_graph.specs.Graph.{domains_of, graph_of}
-use Rattle.rx_program.proofs.OperandLemmas.{clash, plain_no_first}
 use Rattle.rx_program.proofs.operand.is_served.Goals as goal
 
 pub is_plain-requires : goal.is_plain-requires

@@ -1,4 +1,4 @@
-use Rattle.std.proofs.Common.{◌≡◌, true, false, sym, ◌∙◌}
+use Rattle.std.proofs.Common.{sym, ◌∙◌}
 use Rattle.rx_graph.specs.Graph.{domains_of, graph_of}
 use Rattle.rx_program.specs.Request.{request_of}
 use Rattle.rx_program.proofs.OperandLemmas.{clash, plain_no_first}
