@@ -3,6 +3,7 @@
 
 mod arithmetic;
 mod builder;
+mod division;
 mod entry;
 mod fault;
 mod field;
