@@ -8,6 +8,7 @@ pub mod Kept
 pub mod Lows
 pub mod Matching
 pub mod Quotients
+pub mod Reaching
 pub mod Rows
 pub mod Spelled
 pub mod Sums

@@ -12,6 +12,7 @@ mod interval;
 mod laws;
 mod limit;
 mod linear;
+mod number;
 mod work;
 
 pub use fault::{FormFault, NoMemory};
