@@ -7,6 +7,7 @@ pub mod Intervals
 pub mod Kept
 pub mod Lows
 pub mod Matching
+pub mod Numbers
 pub mod Quotients
 pub mod Reaching
 pub mod Rows

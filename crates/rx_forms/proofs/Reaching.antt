@@ -1,16 +1,11 @@
--- When an expression does not stay within the path limit, by its parts, and the sums of leaves.
-use Rattle.std.proofs.Common.{◌≡◌, refl, sym, ap, ◌∙◌, ℕ, ◌+◌, ◌≤◌, arith, List, [], ◌∷◌, ◌++◌, map, Bool, true, false, ◌&&◌, nat_le, ℤ, pos, negsuc, ◌*ℤ◌, ◌+ℤ◌, ◌-ℤ◌, append-nil}
+-- One less than a sum, and what a callee's answer makes of one's own.
+use Rattle.std.proofs.Common.{◌≡◌, refl, sym, ap, ◌∙◌, ℕ, ◌≤◌, arith, List, [], ◌∷◌, Bool, true, false, nat_le, ℤ, pos, negsuc, ◌*ℤ◌, ◌+ℤ◌, ◌-ℤ◌, IfOk, IfErr, OnOk, Ok, Err, Result}
 use Rattle.std.proofs.lemmas.Int.{ints}
 use Rattle.rx_model.specs.Sums.{weighted_sum}
-use Rattle.rx_types.specs.declared.expr.Operator.TheVariants as op
-use Rattle.rx_types.specs.Tree.{Tree, Neg, Binary}
+use Rattle.rx_forms.specs.declared.fault.FormFault.{FormFault}
+use Rattle.rx_forms.specs.declared.fault.FormFault.TheVariants.{PathLimit}
 use Rattle.rx_forms.specs.declared.linear.Linear.{Linear}
-use Rattle.rx_forms.specs.declared.work.Work.{Work}
 use Rattle.rx_forms.specs.Linear.{constant, minus, less_one}
-use Rattle.rx_forms.specs.Normal.{Formed, linear, divisions_in}
-use Rattle.rx_forms.specs.Divisions.{divisions}
-use Rattle.rx_forms.specs.Limits.{Met, met, all_kept, is_within}
-use Rattle.rx_forms.specs.Worked.{Goes, HasSum}
 
 -- ---- one less
 
@@ -32,19 +27,14 @@ one_less_is f =
     ap (λ (cs : List ℤ). made_of cs (pos 1 *ℤ f.constant +ℤ negsuc 0 *ℤ pos 1)) (each_once f.coefficients)
     ∙ ap (λ (z : ℤ). made_of f.coefficients z) (less_by_one f.constant)
 
--- ---- leaves
+-- ---- answers
 
-room_test : (n : ℕ) → n ≤ 190 → (nat_le (n + 0) 190 && true) ≡ true
-room_test n h = grind (arith, h)
+-- what follows from a value and from another fact of an `Ok`
+pub both_ok : {T E : Type 0} (r : Result T E) (P R : T → Type 0) (Q : Type 0) → ((v : T) → P v → Q → R v) → IfOk r P → OnOk r Q → IfOk r R
+both_ok (Ok v) P R Q f p q = f v p q
+both_ok (Err e) P R Q f p q = tt
 
-pub room_of : (n : ℕ) → nat_le n 190 ≡ true → n ≤ 190
-room_of n h = grind (arith, h)
-
-module _ (limit : ℕ → ℕ) (fields : List Formed) where
-  -- an expression with no divisions and no sums on the way
-  pub leaf_works : (x : Tree) (old : Work) (f : Linear) → divisions_in x ≡ 0 → divisions limit fields old.next x ≡ [] → met fields old.next x ≡ [] → old.next ≤ 190 → f ≡ linear fields old.next x → HasSum limit fields x old old f
-  leaf_works x old f d r m h e = record { value = e; goes = record {
-    next = sym (ap (λ (k : ℕ). old.next + k) d ∙ omega arith);
-    rows = sym (ap (λ (rs : List Linear). old.rows ++ rs) r ∙ append-nil old.rows);
-    within = ap (λ (k : ℕ). nat_le (old.next + k) 190 && all_kept (met fields old.next x)) d ∙ ap (λ (ms : List Met). nat_le (old.next + 0) 190 && all_kept ms) m ∙ room_test old.next h;
-  } }
+-- a test that fails at the limit makes another fail
+pub fails_too : {T : Type 0} (r : Result T FormFault) (a b : Bool) → (a ≡ false → b ≡ false) → IfErr r (λ e. e ≡ PathLimit → a ≡ false) → IfErr r (λ e. e ≡ PathLimit → b ≡ false)
+fails_too (Ok v) a b f h = tt
+fails_too (Err e) a b f h = λ k. f (h k)
