@@ -1,17 +1,18 @@
 -- What has been worked out of an expression: its form, and the variables and rows of its divisions behind those before.
 --   IsLeaf, sum_by, divided_by    numbers with no operands, and what sums and divisions make of their operands' sums
---   Goes, HasSum, HasFact         the divisions, the sum and the fact of an expression
-use Rattle.std.specs.Prelude.{◌≡◌, List, ◌++◌, ℕ, ◌+◌, Bool, true, ℤ, pos}
+--   IsTruth, multiple, by_differences, spelled_in, agreed, takes_all    what conditions make of their operands
+--   Goes, HasSum, HasComparison, HasFact    the divisions, the sum and the fact of an expression
+use Rattle.std.specs.Prelude.{◌≡◌, List, [], ◌∷◌, ◌++◌, ℕ, ◌+◌, Bool, true, not, if◌then◌else◌, ℤ, pos, Option, Some, None}
 use Rattle.rx_types.specs.declared.expr.Operator.{Operator}
 use Rattle.rx_types.specs.declared.expr.Operator.TheVariants as op
-use Rattle.rx_types.specs.Tree.{Tree, Number, Field, First, Last, Size, Total}
+use Rattle.rx_types.specs.Tree.{Tree, Number, Truth, Field, First, Last, Size, Total}
 use Rattle.rx_forms.specs.declared.linear.Linear.{Linear}
-use Rattle.rx_forms.specs.declared.linear.Form.{Form}
+use Rattle.rx_forms.specs.declared.linear.Form.{Form, AtLeast, All, Any}
 use Rattle.rx_forms.specs.declared.work.Work.{Work}
-use Rattle.rx_forms.specs.Linear.{term, plus, minus}
-use Rattle.rx_forms.specs.Normal.{Formed, linear, condition, divisions_in}
+use Rattle.rx_forms.specs.Linear.{constant, term, plus, minus, less_one}
+use Rattle.rx_forms.specs.Normal.{Formed, linear, condition, comparison, divisions_in, truth_in, agree}
 use Rattle.rx_forms.specs.Divisions.{divisions}
-use Rattle.rx_forms.specs.Limits.{is_within}
+use Rattle.rx_forms.specs.Limits.{is_within, sides_within}
 
 -- a number with no operands
 abbrev pub IsLeaf : Tree → Type 0
@@ -33,6 +34,45 @@ abbrev pub divided_by : Operator → ℕ → Linear → ℤ → Linear
 divided_by op.Mod q f k = minus f (term k q (pos 0))
 divided_by o q f k = term (pos 1) q (pos 0)
 
+-- ---- facts
+
+-- a truth value with no operands
+abbrev pub IsTruth : Tree → Type 0
+IsTruth (Truth b) = Unit {0}
+IsTruth (Field f) = Unit {0}
+IsTruth x = ⊥
+
+-- a multiple of a variable plus a number, the number alone where there is no variable
+abbrev pub multiple : ℤ → Option ℕ → ℤ → Linear
+multiple k None c = constant c
+multiple k (Some v) c = term k v c
+
+-- the comparison of f and g by their differences f - g and g - f
+abbrev pub by_differences : Operator → Bool → Linear → Linear → Form
+by_differences op.Equal wanted d e = if wanted then All (AtLeast d ∷ AtLeast e ∷ []) else Any (AtLeast (less_one e) ∷ AtLeast (less_one d) ∷ [])
+by_differences op.NotEqual wanted d e = if wanted then Any (AtLeast (less_one e) ∷ AtLeast (less_one d) ∷ []) else All (AtLeast d ∷ AtLeast e ∷ [])
+by_differences op.Less wanted d e = if wanted then AtLeast (less_one e) else AtLeast d
+by_differences op.LessEqual wanted d e = if wanted then AtLeast e else AtLeast (less_one d)
+by_differences op.Greater wanted d e = if wanted then AtLeast (less_one d) else AtLeast e
+by_differences op.GreaterEqual wanted d e = if wanted then AtLeast d else AtLeast (less_one e)
+by_differences o wanted d e = Any []
+
+-- the truth value that an operand spells out, where the operator tests for equality
+abbrev pub spelled_in : Operator → Tree → Option Bool
+spelled_in op.Equal x = truth_in x
+spelled_in op.NotEqual x = truth_in x
+spelled_in o x = None
+
+-- which answer of the other side is wanted, where one side is spelled
+abbrev pub agreed : Operator → Bool → Bool → Bool
+agreed op.NotEqual wanted truth = agree (not wanted) truth
+agreed o wanted truth = agree wanted truth
+
+-- whether the fact of `and` or `or` is all of the operands' facts
+abbrev pub takes_all : Operator → Bool → Bool
+takes_all op.Or wanted = not wanted
+takes_all o wanted = wanted
+
 module _ (limit : ℕ → ℕ) (fields : List Formed) where
   -- the divisions are behind those before, and all stays within the path limit
   pub record Goes (x : Tree) (old new : Work) : Type 0 where
@@ -43,6 +83,13 @@ module _ (limit : ℕ → ℕ) (fields : List Formed) where
   pub record HasSum (x : Tree) (old new : Work) (f : Linear) : Type 0 where
     pub value : f ≡ linear fields old.next x
     pub goes : Goes x old new
+
+  -- two operands, and a comparison of their sums
+  pub record HasComparison (o : Operator) (wanted : Bool) (a b : Tree) (old new : Work) (f : Form) : Type 0 where
+    pub value : f ≡ comparison o wanted (linear fields old.next a) (linear fields (old.next + divisions_in a) b)
+    pub next : new.next ≡ old.next + (divisions_in a + divisions_in b)
+    pub rows : new.rows ≡ old.rows ++ (divisions limit fields old.next a ++ divisions limit fields (old.next + divisions_in a) b)
+    pub within : sides_within fields old.next a b ≡ true
 
   pub record HasFact (wanted : Bool) (x : Tree) (old new : Work) (f : Form) : Type 0 where
     pub value : f ≡ condition fields old.next wanted x

@@ -3,6 +3,7 @@
 
 mod arithmetic;
 mod builder;
+mod condition;
 mod division;
 mod entry;
 mod fault;
