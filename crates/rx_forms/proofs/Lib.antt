@@ -2,6 +2,7 @@ pub mod Along
 pub mod Carrying
 pub mod Conditions
 pub mod Extension
+pub mod Facts
 pub mod Gathering
 pub mod Intervals
 pub mod Kept
