@@ -1,4 +1,6 @@
 pub mod Along
+pub mod Aspects
+pub mod Building
 pub mod Carrying
 pub mod Conditions
 pub mod Extension

@@ -2,17 +2,21 @@
 --   IsLeaf, sum_by, divided_by    numbers with no operands, and what sums and divisions make of their operands' sums
 --   IsTruth, multiple, by_differences, spelled_in, agreed, takes_all    what conditions make of their operands
 --   Goes, HasSum, HasComparison, HasFact    the divisions, the sum and the fact of an expression
-use Rattle.std.specs.Prelude.{◌≡◌, List, [], ◌∷◌, ◌++◌, ℕ, ◌+◌, Bool, true, not, if◌then◌else◌, ℤ, pos, Option, Some, None}
+--   HasAspect, size_otherwise, number_at    the First or the Size of a field, and the variable of its number
+use Rattle.std.specs.Prelude.{◌≡◌, List, [], ◌∷◌, ◌++◌, ℕ, ◌+◌, Bool, true, not, ◌&&◌, nat_le, if◌then◌else◌, ℤ, pos, Option, Some, None}
 use Rattle.rx_types.specs.declared.expr.Operator.{Operator}
 use Rattle.rx_types.specs.declared.expr.Operator.TheVariants as op
+use Rattle.rx_types.specs.Domain.{Domain, size_of}
 use Rattle.rx_types.specs.Tree.{Tree, Number, Truth, Field, First, Last, Size, Total}
 use Rattle.rx_forms.specs.declared.linear.Linear.{Linear}
 use Rattle.rx_forms.specs.declared.linear.Form.{Form, AtLeast, All, Any}
 use Rattle.rx_forms.specs.declared.work.Work.{Work}
 use Rattle.rx_forms.specs.Linear.{constant, term, plus, minus, less_one}
-use Rattle.rx_forms.specs.Normal.{Formed, linear, condition, comparison, divisions_in, truth_in, agree}
+use Rattle.rx_forms.specs.Normal.{Formed, bits, linear, condition, comparison, divisions_in, truth_in, agree}
 use Rattle.rx_forms.specs.Divisions.{divisions}
-use Rattle.rx_forms.specs.Limits.{is_within, sides_within}
+use Rattle.rx_forms.specs.Limits.{is_low, all_kept, is_within, sides_within}
+use Rattle.rx_forms.specs.Steps.{form_or, divisions_in_any, divisions_any}
+use Rattle.rx_forms.specs.Gathered.{met_any}
 
 -- a number with no operands
 abbrev pub IsLeaf : Tree → Type 0
@@ -73,6 +77,10 @@ abbrev pub takes_all : Operator → Bool → Bool
 takes_all op.Or wanted = not wanted
 takes_all o wanted = wanted
 
+-- the divisions of a First or a Size and its sum stay within the path limit
+abbrev pub aspect_within : List Formed → ℕ → Option Tree → Linear → Bool
+aspect_within fields n x f = nat_le (n + divisions_in_any x) 190 && (all_kept (met_any fields n x) && is_low f)
+
 module _ (limit : ℕ → ℕ) (fields : List Formed) where
   -- the divisions are behind those before, and all stays within the path limit
   pub record Goes (x : Tree) (old new : Work) : Type 0 where
@@ -94,3 +102,21 @@ module _ (limit : ℕ → ℕ) (fields : List Formed) where
   pub record HasFact (wanted : Bool) (x : Tree) (old new : Work) (f : Form) : Type 0 where
     pub value : f ≡ condition fields old.next wanted x
     pub goes : Goes x old new
+
+  -- ---- a First or a Size, if it is said, else another sum
+
+  pub record HasAspect (x : Option Tree) (otherwise : Linear) (old new : Work) (f : Linear) : Type 0 where
+    pub value : f ≡ form_or x fields old.next otherwise
+    pub next : new.next ≡ old.next + divisions_in_any x
+    pub rows : new.rows ≡ old.rows ++ divisions_any limit fields old.next x
+    pub within : aspect_within fields old.next x (form_or x fields old.next otherwise) ≡ true
+
+-- the Size of a field that does not say it: that of its type, else the rest of the message behind its First
+abbrev pub size_otherwise : Option Domain → Linear → Linear
+size_otherwise (Some t) first = constant (pos (size_of t))
+size_otherwise None first = minus bits first
+
+-- the variable of a field's number, if it is a scalar
+abbrev pub number_at : Option Domain → ℕ → Linear
+number_at (Some t) scalar = term (pos 1) scalar (pos 0)
+number_at None scalar = constant (pos 0)

@@ -2,6 +2,7 @@
 #![tactic(auto)]
 
 mod arithmetic;
+mod aspect;
 mod builder;
 mod condition;
 mod division;
