@@ -168,15 +168,25 @@ module _ (domains : List Domain) (m : Graph) where
       list_all-append is_kept xs _
       ∙ ap (λ (t : Bool). all_kept xs && t) (list_all-append is_kept ys _ ∙ ap (λ (t : Bool). all_kept ys && (is_low f && t)) (list_all-append is_kept zs _))
 
+  limit_parts : (front : Fronts.Front) (link : Arrow) (aspect : Option Tree) (size : Linear)
+      → (nat_le (size_division (Fronts.step_at front link) + divisions_in_any aspect) 190
+      && all_kept (met front.fields front.division link.condition ++ (met_any front.fields (first_division (Fronts.step_at front link)) link.first ++ (Limited (first_form (Fronts.step_at front link)) ∷ (met_any front.fields (size_division (Fronts.step_at front link)) aspect ++ Limited size ∷ Limited (plus (first_form (Fronts.step_at front link)) size) ∷ [])))))
+      ≡ (is_within front.fields front.division link.condition
+      && (aspect_within front.fields (first_division (Fronts.step_at front link)) link.first (first_form (Fronts.step_at front link))
+      && (aspect_within front.fields (size_division (Fronts.step_at front link)) aspect size
+      && is_low (plus (first_form (Fronts.step_at front link)) size))))
+  limit_parts front link aspect size =
+      let step = Fronts.step_at front link in
+      let first = first_form step in
+      let xs = met front.fields front.division link.condition in
+      let ys = met_any front.fields (first_division step) link.first in
+      let zs = met_any front.fields (size_division step) aspect in
+      ap (λ (t : Bool). nat_le (size_division step + divisions_in_any aspect) 190 && t) (parts_of xs ys zs first size (plus first size))
+      ∙ one_by_one (nat_le (first_division step) 190) (nat_le (size_division step) 190) (nat_le (size_division step + divisions_in_any aspect) 190) (all_kept xs) (all_kept ys) (is_low first) (all_kept zs) (is_low size) (is_low (plus first size)) (le_more (size_division step) (divisions_in_any aspect)) (le_more (first_division step) (divisions_in_any link.first))
+
   limit_by : (type : Option Domain) (front : Fronts.Front) (link : Arrow) → (nat_le (size_division (Fronts.step_at front link) + divisions_in_any (size_aspect type link.size)) 190 && all_kept (met_at type (Fronts.step_at front link))) ≡ (is_within front.fields front.division link.condition && Fronts.place_within type (Fronts.after_end domains m front link) link)
-  limit_by (Some t) front link =
-      let step = Fronts.step_at front link in
-      ap (λ (t : Bool). nat_le (size_division step + 0) 190 && t) (parts_of (met front.fields front.division link.condition) (met_any front.fields (first_division step) link.first) [] (first_form step) (size_form (Some t) step) (plus (first_form step) (size_form (Some t) step)))
-      ∙ one_by_one (nat_le (first_division step) 190) (nat_le (size_division step) 190) (nat_le (size_division step + 0) 190) _ _ _ _ _ _ (le_more (size_division step) 0) (le_more (first_division step) (divisions_in_any link.first))
-  limit_by None front link =
-      let step = Fronts.step_at front link in
-      ap (λ (t : Bool). nat_le (size_division step + divisions_in_any link.size) 190 && t) (parts_of (met front.fields front.division link.condition) (met_any front.fields (first_division step) link.first) (met_any front.fields (size_division step) link.size) (first_form step) (size_form None step) (plus (first_form step) (size_form None step)))
-      ∙ one_by_one (nat_le (first_division step) 190) (nat_le (size_division step) 190) (nat_le (size_division step + divisions_in_any link.size) 190) _ _ _ _ _ _ (le_more (size_division step) (divisions_in_any link.size)) (le_more (first_division step) (divisions_in_any link.first))
+  limit_by (Some t) front link = limit_parts front link None (size_form (Some t) (Fronts.step_at front link))
+  limit_by None front link = limit_parts front link link.size (size_form None (Fronts.step_at front link))
 
   pub link_test : (front : Fronts.Front) (link : Arrow) → Fronts.link_within domains m front link ≡ (is_within front.fields front.division link.condition && Fronts.place_within (type_of domains m (target_field link.target)) (Fronts.after_end domains m front link) link)
   link_test front link = limit_by (type_of domains m (target_field link.target)) front link
