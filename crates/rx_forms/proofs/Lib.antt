@@ -8,6 +8,7 @@ pub mod Facts
 pub mod Gathering
 pub mod Intervals
 pub mod Kept
+pub mod Looping
 pub mod Lows
 pub mod Matching
 pub mod Numbers
@@ -16,6 +17,7 @@ pub mod Reaching
 pub mod Rows
 pub mod Spelled
 pub mod Sums
+pub mod Telling
 pub mod Tests
 pub mod Typed
 pub mod Values

@@ -3,20 +3,23 @@
 --   after_link, after_links  what stands behind a link into a field, and behind several
 --   first_at, size_at, after_field, after_place    the First and the Size of a link, and what stands behind its field
 --   after_end, after_ends    what stands behind the condition of a link at the end, and behind several
+--   after_path, path_within   what stands behind a path, and whether it stays within the path limit
+--   ends_of, forms_in         which links are asked for at the end, and what was gathered as forms
 --   link_within, links_within, end_within, ends_within    whether they stay within the path limit
-use Rattle.std.specs.Prelude.{List, [], ◌∷◌, ◌++◌, ℕ, ◌+◌, Bool, true, ◌&&◌, nat_le, Option}
+use Rattle.std.specs.Prelude.{List, [], ◌∷◌, ◌++◌, ℕ, ◌+◌, Bool, true, false, ◌&&◌, nat_le, if◌then◌else◌, Option}
 use Rattle.rx_types.specs.Domain.{Domain}
 use Rattle.rx_graph.specs.Graph.{Arrow, Graph, type_of, limit_of}
 use Rattle.rx_forms.specs.declared.linear.Linear.{Linear}
 use Rattle.rx_forms.specs.declared.linear.Form.{Form}
 use Rattle.rx_forms.specs.declared.builder.Builder.{Builder}
+use Rattle.rx_forms.specs.declared.forms.Forms.{Forms}
 use Rattle.rx_forms.specs.Linear.{plus}
 use Rattle.rx_forms.specs.Normal.{Formed, divisions_in, condition}
 use Rattle.rx_forms.specs.Divisions.{divisions}
 use Rattle.rx_forms.specs.Limits.{is_low, all_kept, is_within}
-use Rattle.rx_forms.specs.Steps.{Step, form_or, end_form, size_aspect, divisions_in_any, divisions_any, scalars_in, first_form, size_form, condition_form, division_forms, formed_at, next_scalar, next_division, target_field}
+use Rattle.rx_forms.specs.Steps.{Step, form_or, end_form, size_aspect, divisions_in_any, divisions_any, scalars_in, first_form, size_form, condition_form, division_forms, formed_at, next_scalar, next_division, target_field, links_on}
 use Rattle.rx_forms.specs.Worked.{aspect_within, size_otherwise, number_at}
-use Rattle.rx_forms.specs.Gathered.{met_at}
+use Rattle.rx_forms.specs.Gathered.{met_at, into_fields, others}
 use Rattle.rx_forms.specs.Code.{formed_all}
 
 pub record Front : Type 0 where
@@ -31,6 +34,10 @@ pub record Front : Type 0 where
 -- what the code keeps
 abbrev pub front_of : Builder → Front
 front_of b = record { fields = formed_all b.fields.items; scalar = b.scalar; division = b.work.next; rows = b.work.rows; firsts = b.firsts; sizes = b.sizes; conditions = b.conditions }
+
+-- all links, or those that do not lead to fields
+abbrev pub ends_of : Bool → List Arrow → List Arrow
+ends_of all links = if all then links else others links
 
 -- the link behind what stands before it
 abbrev pub step_at : Front → Arrow → Step
@@ -119,3 +126,18 @@ module _ (domains : List Domain) (m : Graph) where
   abbrev pub ends_within : Front → List Arrow → Bool
   ends_within front [] = true
   ends_within front (link ∷ links) = is_within front.fields front.division link.condition && ends_within (after_end front link) links
+
+module _ (domains : List Domain) (m : Graph) where
+  -- behind the links of a path into fields and the conditions at its end
+  abbrev pub after_path : Front → List ℕ → List ℕ → Front
+  after_path front path out = after_ends domains m (after_ends domains m (after_links domains m front (into_fields (links_on domains m path))) (ends_of false (links_on domains m path))) (links_on domains m out)
+
+  abbrev pub path_within : Front → List ℕ → List ℕ → Bool
+  path_within front path out =
+      links_within domains m front (into_fields (links_on domains m path))
+      && (ends_within domains m (after_links domains m front (into_fields (links_on domains m path))) (ends_of false (links_on domains m path))
+      && ends_within domains m (after_ends domains m (after_links domains m front (into_fields (links_on domains m path))) (ends_of false (links_on domains m path))) (links_on domains m out))
+
+-- what was gathered, as the forms of a path
+abbrev pub forms_in : Front → Forms
+forms_in front = record { variables = front.division; divisions = front.rows; firsts = front.firsts; sizes = front.sizes; conditions = front.conditions }

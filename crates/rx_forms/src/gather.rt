@@ -1,6 +1,6 @@
 // The links of a path, gathered in order.
 
-ghost use Rattle.std.specs.Prelude.{◌≡◌, ℕ, ◌+◌, ◌≤◌, ◌∷◌, [], true, false, IfErr, OnOk};
+ghost use Rattle.std.specs.Prelude.{◌≡◌, ℕ, ◌+◌, ◌≤◌, ◌∷◌, [], true, false, not, ◌||◌, IfErr, OnOk};
 ghost use Rattle.rx_graph.specs.Cycles.{IsLink};
 ghost use Rattle.rx_graph.specs.Graph.{arrow_of, graph_of};
 ghost use Rattle.rx_forms.specs.Steps.{AreFormable, AreNarrow, leads_to_field, links_on, scalars_on};
@@ -26,7 +26,7 @@ fn scalars_at(link: &Link, message: &Message, scalars: &[Scalar]) -> usize
 
 // How many scalars the link at an index leads to.
 fn scalars_under(index: u16, message: &Message, scalars: &[Scalar]) -> usize
-    ensures value { result ≡ scalars_on (domains_in scalars.now) (graph_of message.now) (into_fields (links_on (graph_of message.now) (index ∷ []))) }
+    ensures value { result ≡ scalars_on (domains_in scalars.now) (graph_of message.now) (into_fields (links_on (domains_in scalars.now) (graph_of message.now) (index ∷ []))) }
     ensures one { result ≤ 1 }
 {
     match message.links.get(index as usize) {
@@ -37,7 +37,7 @@ fn scalars_under(index: u16, message: &Message, scalars: &[Scalar]) -> usize
 
 /// How many scalars a path leads through.
 pub fn scalars_along(path: &[u16], message: &Message, scalars: &[Scalar]) -> usize
-    ensures { result ≡ scalars_on (domains_in scalars.now) (graph_of message.now) (into_fields (links_on (graph_of message.now) path.now)) }
+    ensures { result ≡ scalars_on (domains_in scalars.now) (graph_of message.now) (into_fields (links_on (domains_in scalars.now) (graph_of message.now) path.now)) }
 {
     let mut count = 0;
     for index in path {
@@ -85,9 +85,9 @@ fn gather_index(
     requires narrow { AreNarrow (limits_in scalars.now message.now) (graph_of message.now) }
     requires few { builder.old.scalar ≤ 190 }
     requires room { builder.old.work.next ≤ 190 }
-    ensures gone { OnOk result (front_of builder.new ≡ after_links (domains_in scalars.now) (graph_of message.now) (front_of builder.old) (into_fields (links_on (graph_of message.now) (index ∷ [])))) }
-    ensures within { OnOk result (links_within (domains_in scalars.now) (graph_of message.now) (front_of builder.old) (into_fields (links_on (graph_of message.now) (index ∷ []))) ≡ true) }
-    ensures limit { IfErr result (λ e. e ≡ FormFault.PathLimit → links_within (domains_in scalars.now) (graph_of message.now) (front_of builder.old) (into_fields (links_on (graph_of message.now) (index ∷ []))) ≡ false) }
+    ensures gone { OnOk result (front_of builder.new ≡ after_links (domains_in scalars.now) (graph_of message.now) (front_of builder.old) (into_fields (links_on (domains_in scalars.now) (graph_of message.now) (index ∷ [])))) }
+    ensures within { OnOk result (links_within (domains_in scalars.now) (graph_of message.now) (front_of builder.old) (into_fields (links_on (domains_in scalars.now) (graph_of message.now) (index ∷ []))) ≡ true) }
+    ensures limit { IfErr result (λ e. e ≡ FormFault.PathLimit → links_within (domains_in scalars.now) (graph_of message.now) (front_of builder.old) (into_fields (links_on (domains_in scalars.now) (graph_of message.now) (index ∷ []))) ≡ false) }
 {
     match message.links.get(index as usize) {
         Some(link) => gather_link(alloc, link, message, scalars, builder),
@@ -106,11 +106,11 @@ pub fn gather_fields(
 ) -> Result<(), FormFault>
     requires formable { AreFormable (limits_in scalars.now message.now) (graph_of message.now) }
     requires narrow { AreNarrow (limits_in scalars.now message.now) (graph_of message.now) }
-    requires few { builder.old.scalar + scalars_on (domains_in scalars.now) (graph_of message.now) (into_fields (links_on (graph_of message.now) path.now)) ≤ 190 }
+    requires few { builder.old.scalar + scalars_on (domains_in scalars.now) (graph_of message.now) (into_fields (links_on (domains_in scalars.now) (graph_of message.now) path.now)) ≤ 190 }
     requires room { builder.old.work.next ≤ 190 }
-    ensures gone { OnOk result (front_of builder.new ≡ after_links (domains_in scalars.now) (graph_of message.now) (front_of builder.old) (into_fields (links_on (graph_of message.now) path.now))) }
-    ensures within { OnOk result (links_within (domains_in scalars.now) (graph_of message.now) (front_of builder.old) (into_fields (links_on (graph_of message.now) path.now)) ≡ true) }
-    ensures limit { IfErr result (λ e. e ≡ FormFault.PathLimit → links_within (domains_in scalars.now) (graph_of message.now) (front_of builder.old) (into_fields (links_on (graph_of message.now) path.now)) ≡ false) }
+    ensures gone { OnOk result (front_of builder.new ≡ after_links (domains_in scalars.now) (graph_of message.now) (front_of builder.old) (into_fields (links_on (domains_in scalars.now) (graph_of message.now) path.now))) }
+    ensures within { OnOk result (links_within (domains_in scalars.now) (graph_of message.now) (front_of builder.old) (into_fields (links_on (domains_in scalars.now) (graph_of message.now) path.now)) ≡ true) }
+    ensures limit { IfErr result (λ e. e ≡ FormFault.PathLimit → links_within (domains_in scalars.now) (graph_of message.now) (front_of builder.old) (into_fields (links_on (domains_in scalars.now) (graph_of message.now) path.now)) ≡ false) }
 {
     for index in path {
         gather_index(alloc, *index, message, scalars, builder)?;
@@ -138,11 +138,18 @@ fn gather_end(
     ensures within { OnOk result (ends_within (domains_in scalars.now) (graph_of message.now) (front_of builder.old) (ends_of all (arrow_of link.now ∷ [])) ≡ true) }
     ensures limit { IfErr result (λ e. e ≡ FormFault.PathLimit → ends_within (domains_in scalars.now) (graph_of message.now) (front_of builder.old) (ends_of all (arrow_of link.now ∷ [])) ≡ false) }
 {
-    if all || !leads_to_field(link) {
+    if is_asked(all, link) {
         add_condition(alloc, link, message, scalars, builder)
     } else {
         Ok(())
     }
+}
+
+// Whether the condition of a link is asked for at the end.
+fn is_asked(all: bool, link: &Link) -> bool
+    ensures { result ≡ (all || not (leads_to_field (arrow_of link.now))) }
+{
+    all || !leads_to_field(link)
 }
 
 fn leads_to_field(link: &Link) -> bool
@@ -167,9 +174,9 @@ fn gather_end_at(
     requires formable { AreFormable (limits_in scalars.now message.now) (graph_of message.now) }
     requires narrow { AreNarrow (limits_in scalars.now message.now) (graph_of message.now) }
     requires room { builder.old.work.next ≤ 190 }
-    ensures gone { OnOk result (front_of builder.new ≡ after_ends (domains_in scalars.now) (graph_of message.now) (front_of builder.old) (ends_of all (links_on (graph_of message.now) (index ∷ [])))) }
-    ensures within { OnOk result (ends_within (domains_in scalars.now) (graph_of message.now) (front_of builder.old) (ends_of all (links_on (graph_of message.now) (index ∷ []))) ≡ true) }
-    ensures limit { IfErr result (λ e. e ≡ FormFault.PathLimit → ends_within (domains_in scalars.now) (graph_of message.now) (front_of builder.old) (ends_of all (links_on (graph_of message.now) (index ∷ []))) ≡ false) }
+    ensures gone { OnOk result (front_of builder.new ≡ after_ends (domains_in scalars.now) (graph_of message.now) (front_of builder.old) (ends_of all (links_on (domains_in scalars.now) (graph_of message.now) (index ∷ [])))) }
+    ensures within { OnOk result (ends_within (domains_in scalars.now) (graph_of message.now) (front_of builder.old) (ends_of all (links_on (domains_in scalars.now) (graph_of message.now) (index ∷ []))) ≡ true) }
+    ensures limit { IfErr result (λ e. e ≡ FormFault.PathLimit → ends_within (domains_in scalars.now) (graph_of message.now) (front_of builder.old) (ends_of all (links_on (domains_in scalars.now) (graph_of message.now) (index ∷ []))) ≡ false) }
 {
     match message.links.get(index as usize) {
         Some(link) => gather_end(alloc, link, all, message, scalars, builder),
@@ -190,9 +197,9 @@ pub fn gather_ends(
     requires formable { AreFormable (limits_in scalars.now message.now) (graph_of message.now) }
     requires narrow { AreNarrow (limits_in scalars.now message.now) (graph_of message.now) }
     requires room { builder.old.work.next ≤ 190 }
-    ensures gone { OnOk result (front_of builder.new ≡ after_ends (domains_in scalars.now) (graph_of message.now) (front_of builder.old) (ends_of all (links_on (graph_of message.now) path.now))) }
-    ensures within { OnOk result (ends_within (domains_in scalars.now) (graph_of message.now) (front_of builder.old) (ends_of all (links_on (graph_of message.now) path.now)) ≡ true) }
-    ensures limit { IfErr result (λ e. e ≡ FormFault.PathLimit → ends_within (domains_in scalars.now) (graph_of message.now) (front_of builder.old) (ends_of all (links_on (graph_of message.now) path.now)) ≡ false) }
+    ensures gone { OnOk result (front_of builder.new ≡ after_ends (domains_in scalars.now) (graph_of message.now) (front_of builder.old) (ends_of all (links_on (domains_in scalars.now) (graph_of message.now) path.now))) }
+    ensures within { OnOk result (ends_within (domains_in scalars.now) (graph_of message.now) (front_of builder.old) (ends_of all (links_on (domains_in scalars.now) (graph_of message.now) path.now)) ≡ true) }
+    ensures limit { IfErr result (λ e. e ≡ FormFault.PathLimit → ends_within (domains_in scalars.now) (graph_of message.now) (front_of builder.old) (ends_of all (links_on (domains_in scalars.now) (graph_of message.now) path.now)) ≡ false) }
 {
     for index in path {
         gather_end_at(alloc, *index, all, message, scalars, builder)?;

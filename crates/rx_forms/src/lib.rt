@@ -10,6 +10,7 @@ mod entry;
 mod fault;
 mod field;
 mod forms;
+mod gather;
 mod interval;
 mod laws;
 mod limit;
@@ -18,7 +19,7 @@ mod number;
 mod work;
 
 pub use fault::{FormFault, NoMemory};
-pub use forms::Forms;
+pub use forms::{Forms, forms_of, forms_with};
 pub use laws::{
     facts_hold_where_conditions_do, links_have_forms, partial_paths_make_rows,
     quotients_solve_divisions, rows_hold_of_quotients, rows_leave_quotients_no_choice,
