@@ -35,7 +35,7 @@ module _ (domains : List Domain) (m : Graph) (path out : List ℕ) where
   fields = Gathered.into_fields (links_on domains m path)
 
   abbrev ends : List Arrow
-  ends = Gathered.ends_along m path out
+  ends = Gathered.ends_along domains m path out
 
   abbrev count : ℕ
   count = scalars_on domains m fields

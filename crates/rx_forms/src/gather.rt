@@ -1,6 +1,7 @@
 // The links of a path, gathered in order.
 
-ghost use Rattle.std.specs.Prelude.{◌≡◌, ℕ, ◌+◌, ◌≤◌, ◌∷◌, [], true, false, not, ◌||◌, IfErr, OnOk};
+ghost use Rattle.std.specs.Prelude.{◌≡◌, ℕ, ◌+◌, ◌≤◌, ◌∷◌, [], true, false, not, ◌||◌, IfErr, OnOk, slice_get};
+ghost use Rattle.std.specs.Option.{option_copied};
 ghost use Rattle.rx_graph.specs.Cycles.{IsLink};
 ghost use Rattle.rx_graph.specs.Graph.{arrow_of, graph_of};
 ghost use Rattle.rx_forms.specs.Steps.{AreFormable, AreNarrow, leads_to_field, links_on, scalars_on};
@@ -11,6 +12,7 @@ ghost use Rattle.rx_forms.specs.Fronts.{front_of, after_links, links_within, aft
 use crate::builder::{Builder, add_condition, add_link, scalars_in};
 use crate::fault::FormFault;
 use rx_graph::{Link, Message, Node, Scalar};
+use sqlite_items::at;
 use std::alloc::Global;
 
 // How many scalars a link leads to, 1 or 0.
@@ -24,12 +26,19 @@ fn scalars_at(link: &Link, message: &Message, scalars: &[Scalar]) -> usize
     }
 }
 
+// The link at an index, if there is one.
+fn link_at(message: &Message, index: u16) -> Option<&Link>
+    ensures { option_copied result ≡ slice_get message.now.links.items index }
+{
+    at(message.links.as_slice(), index as usize)
+}
+
 // How many scalars the link at an index leads to.
 fn scalars_under(index: u16, message: &Message, scalars: &[Scalar]) -> usize
     ensures value { result ≡ scalars_on (domains_in scalars.now) (graph_of message.now) (into_fields (links_on (domains_in scalars.now) (graph_of message.now) (index ∷ []))) }
     ensures one { result ≤ 1 }
 {
-    match message.links.get(index as usize) {
+    match link_at(message, index) {
         Some(link) => scalars_at(link, message, scalars),
         None => 0,
     }
@@ -89,14 +98,13 @@ fn gather_index(
     ensures within { OnOk result (links_within (domains_in scalars.now) (graph_of message.now) (front_of builder.old) (into_fields (links_on (domains_in scalars.now) (graph_of message.now) (index ∷ []))) ≡ true) }
     ensures limit { IfErr result (λ e. e ≡ FormFault.PathLimit → links_within (domains_in scalars.now) (graph_of message.now) (front_of builder.old) (into_fields (links_on (domains_in scalars.now) (graph_of message.now) (index ∷ []))) ≡ false) }
 {
-    match message.links.get(index as usize) {
+    match link_at(message, index) {
         Some(link) => gather_link(alloc, link, message, scalars, builder),
         None => Ok(()),
     }
 }
 
 /// Gathers the links of a path that lead to fields.
-#[tactic(none)]
 pub fn gather_fields(
     alloc: Global,
     path: &[u16],
@@ -178,14 +186,13 @@ fn gather_end_at(
     ensures within { OnOk result (ends_within (domains_in scalars.now) (graph_of message.now) (front_of builder.old) (ends_of all (links_on (domains_in scalars.now) (graph_of message.now) (index ∷ []))) ≡ true) }
     ensures limit { IfErr result (λ e. e ≡ FormFault.PathLimit → ends_within (domains_in scalars.now) (graph_of message.now) (front_of builder.old) (ends_of all (links_on (domains_in scalars.now) (graph_of message.now) (index ∷ []))) ≡ false) }
 {
-    match message.links.get(index as usize) {
+    match link_at(message, index) {
         Some(link) => gather_end(alloc, link, all, message, scalars, builder),
         None => Ok(()),
     }
 }
 
 /// Gathers the conditions of links at the end of a path: all of them, or those that do not lead to fields.
-#[tactic(none)]
 pub fn gather_ends(
     alloc: Global,
     path: &[u16],

@@ -17,11 +17,20 @@ gather_path-requires c = record { formable = c.requires.formable; narrow = c.req
 
 pub returns-in_err-gather_path : goal.returns-in_err-gather_path
 returns-in_err-gather_path c =
+    let domains = domains_in c.args.scalars.now in
+    let m = graph_of c.args.message.now in
+    let path = c.args.path.now in
+    let front = front_of c.args.builder.now in
+    let mid = after_links domains m front (into_fields (links_on domains m path)) in
+    let end = after_ends domains m mid (ends_of false (links_on domains m path)) in
+    let a = links_within domains m front (into_fields (links_on domains m path)) in
+    let b = ends_within domains m mid (ends_of false (links_on domains m path)) in
+    let d = ends_within domains m end (links_on domains m c.args.out.now) in
     let p = err_from_is_err_and c.from_residual.result c.from_residual.ensures.1 in
     record {
       gone = IfOk-from_err c.from_residual.result _ c.from_residual.ensures.0;
       within = IfOk-from_err c.from_residual.result _ c.from_residual.ensures.0;
-      limit = rw (p.1, p.2) (λ e. Telling.fails_before _ _ _ (c.in_err-gather_path.ensures.limit e));
+      limit = rw (p.1, p.2) (λ e. Telling.fails_before a b d (c.in_err-gather_path.ensures.limit e));
     }
 
 pub gather_ends-requires : goal.gather_ends-requires

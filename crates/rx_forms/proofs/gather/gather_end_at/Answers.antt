@@ -13,7 +13,7 @@ use Rattle.rx_forms.proofs.gather.gather_end_at.Goals as goal
 
 pub gather_end-requires : goal.gather_end-requires
 gather_end-requires c = record {
-  link = (c.args.index, Looping.link_at c.args.message.now.links.items c.args.index c.in-Some.link.now (sym c.in-Some.ensures.value));
+  link = (c.args.index, Looping.link_at c.args.message.now.links.items c.args.index c.in-Some.link.now (sym c.in-Some.ensures));
   formable = c.requires.formable;
   narrow = c.requires.narrow;
   room = c.requires.room;
@@ -26,7 +26,7 @@ returns-in-Some c =
     let front = front_of c.args.builder.now in
     let r = c.gather_end.result in
     let new = front_of c.gather_end.new.builder in
-    let e = sym (Looping.found_link domains m c.args.index (arrow_of c.in-Some.link.now) (Looping.link_at c.args.message.now.links.items c.args.index c.in-Some.link.now (sym c.in-Some.ensures.value))) in
+    let e = sym (Looping.found_link domains m c.args.index (arrow_of c.in-Some.link.now) (Looping.link_at c.args.message.now.links.items c.args.index c.in-Some.link.now (sym c.in-Some.ensures))) in
     record {
       gone = subst (λ (ls : List Arrow). OnOk r (new ≡ after_ends domains m front ((ends_of c.args.all) ls))) e c.gather_end.ensures.gone;
       within = subst (λ (ls : List Arrow). OnOk r (ends_within domains m front ((ends_of c.args.all) ls) ≡ true)) e c.gather_end.ensures.within;
@@ -38,7 +38,7 @@ returns-in-None c =
     let domains = domains_in c.args.scalars.now in
     let m = graph_of c.args.message.now in
     let front = front_of c.args.builder.now in
-    let e = Looping.lost_link domains m c.args.index (Looping.no_link_at c.args.message.now.links.items c.args.index (sym c.in-None.ensures.value)) in
+    let e = Looping.lost_link domains m c.args.index (Looping.no_link_at c.args.message.now.links.items c.args.index (sym c.in-None.ensures)) in
     record {
       gone = sym (ap (λ (ls : List Arrow). after_ends domains m front ((ends_of c.args.all) ls)) e ∙ ap (λ (ls : List Arrow). after_ends domains m front ls) (Looping.ends_nothing c.args.all));
       within = ap (λ (ls : List Arrow). ends_within domains m front ((ends_of c.args.all) ls)) e ∙ ap (λ (ls : List Arrow). ends_within domains m front ls) (Looping.ends_nothing c.args.all);

@@ -69,7 +69,7 @@ returns c =
     let k = c.loop-index.index-index in
     let cur = front_of c.loop-index.builder in
     let inv = c.loop-index.invariant in
-    let d = drop_all path k c.loop-index-test.false in
+    let d = drop_all k path c.loop-index-test.false in
     record {
       gone = sym (ap (λ (p : List ℕ). after_ends domains m cur ((ends_of c.args.all) (links_on domains m p))) d ∙ ap (λ (ls : List Arrow). after_ends domains m cur ls) (Looping.ends_nothing c.args.all)) ∙ inv.gone;
       within = inv.within ∙ ap (λ (p : List ℕ). ends_within domains m cur ((ends_of c.args.all) (links_on domains m p))) d ∙ ap (λ (ls : List Arrow). ends_within domains m cur ls) (Looping.ends_nothing c.args.all);

@@ -73,7 +73,7 @@ returns c =
     let k = c.loop-index.index-index in
     let cur = front_of c.loop-index.builder in
     let inv = c.loop-index.invariant in
-    let d = drop_all path k c.loop-index-test.false in
+    let d = drop_all k path c.loop-index-test.false in
     record {
       gone = sym (ap (λ (p : List ℕ). after_links domains m cur (into_fields (links_on domains m p))) d ∙ refl) ∙ inv.gone;
       within = inv.within ∙ ap (λ (p : List ℕ). links_within domains m cur (into_fields (links_on domains m p))) d ∙ refl;

@@ -13,7 +13,7 @@ use Rattle.rx_forms.proofs.gather.gather_index.Goals as goal
 
 pub gather_link-requires : goal.gather_link-requires
 gather_link-requires c = record {
-  link = (c.args.index, Looping.link_at c.args.message.now.links.items c.args.index c.in-Some.link.now (sym c.in-Some.ensures.value));
+  link = (c.args.index, Looping.link_at c.args.message.now.links.items c.args.index c.in-Some.link.now (sym c.in-Some.ensures));
   formable = c.requires.formable;
   narrow = c.requires.narrow;
   few = c.requires.few;
@@ -27,7 +27,7 @@ returns-in-Some c =
     let front = front_of c.args.builder.now in
     let r = c.gather_link.result in
     let new = front_of c.gather_link.new.builder in
-    let e = sym (Looping.found_link domains m c.args.index (arrow_of c.in-Some.link.now) (Looping.link_at c.args.message.now.links.items c.args.index c.in-Some.link.now (sym c.in-Some.ensures.value))) in
+    let e = sym (Looping.found_link domains m c.args.index (arrow_of c.in-Some.link.now) (Looping.link_at c.args.message.now.links.items c.args.index c.in-Some.link.now (sym c.in-Some.ensures))) in
     record {
       gone = subst (λ (ls : List Arrow). OnOk r (new ≡ after_links domains m front (into_fields ls))) e c.gather_link.ensures.gone;
       within = subst (λ (ls : List Arrow). OnOk r (links_within domains m front (into_fields ls) ≡ true)) e c.gather_link.ensures.within;
@@ -39,7 +39,7 @@ returns-in-None c =
     let domains = domains_in c.args.scalars.now in
     let m = graph_of c.args.message.now in
     let front = front_of c.args.builder.now in
-    let e = Looping.lost_link domains m c.args.index (Looping.no_link_at c.args.message.now.links.items c.args.index (sym c.in-None.ensures.value)) in
+    let e = Looping.lost_link domains m c.args.index (Looping.no_link_at c.args.message.now.links.items c.args.index (sym c.in-None.ensures)) in
     record {
       gone = sym (ap (λ (ls : List Arrow). after_links domains m front (into_fields ls)) e);
       within = ap (λ (ls : List Arrow). links_within domains m front (into_fields ls)) e;

@@ -8,6 +8,6 @@ pub loop-index-preserved : goal.loop-index-preserved
 loop-index-preserved c =
     let e = scalars_next (domains_in c.args.scalars.now) (graph_of c.args.message.now) c.args.path.now c.loop-index.index-index c.loop-index-test.true in
     record {
-      told = omega (arith, e, c.loop-index.invariant.told, c.scalars_under.ensures.value);
-      few = omega (arith, c.loop-index.invariant.few, c.scalars_under.ensures.one);
+      told = omega (arith, e, c.loop-index.invariant.told, c.scalars_under-count.ensures.value);
+      few = omega (arith, c.loop-index.invariant.few, c.scalars_under-count.ensures.one);
     }

@@ -12,7 +12,7 @@ returns-in-Some c =
     let m = graph_of c.args.message.now in
     let link = arrow_of c.in-Some.link.now in
     record {
-      value = c.scalars_at.ensures.value ∙ sym (ap (λ (ls : List Arrow). scalars_on domains m (into_fields ls)) (Looping.found_link domains m c.args.index link (Looping.link_at c.args.message.now.links.items c.args.index c.in-Some.link.now (sym c.in-Some.ensures.value))));
+      value = c.scalars_at.ensures.value ∙ sym (ap (λ (ls : List Arrow). scalars_on domains m (into_fields ls)) (Looping.found_link domains m c.args.index link (Looping.link_at c.args.message.now.links.items c.args.index c.in-Some.link.now (sym c.in-Some.ensures))));
       one = c.scalars_at.ensures.one;
     }
 
@@ -21,6 +21,6 @@ returns-in-None c =
     let domains = domains_in c.args.scalars.now in
     let m = graph_of c.args.message.now in
     record {
-      value = sym (ap (λ (ls : List Arrow). scalars_on domains m (into_fields ls)) (Looping.lost_link domains m c.args.index (Looping.no_link_at c.args.message.now.links.items c.args.index (sym c.in-None.ensures.value))));
+      value = sym (ap (λ (ls : List Arrow). scalars_on domains m (into_fields ls)) (Looping.lost_link domains m c.args.index (Looping.no_link_at c.args.message.now.links.items c.args.index (sym c.in-None.ensures))));
       one = omega arith;
     }
