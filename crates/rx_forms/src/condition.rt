@@ -191,9 +191,7 @@ fn comparison(
 {
     let difference = low_difference(alloc, left, right)?;
     let opposite = low_difference(alloc, right, left)?;
-    Ok(by_differences(
-        alloc, operator, wanted, difference, opposite,
-    )?)
+    Ok(by_differences(alloc, operator, wanted, difference, opposite)?)
 }
 
 // The truth value that an operand spells out, where the operator tests for equality.

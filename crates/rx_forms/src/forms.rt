@@ -31,8 +31,8 @@ pub struct Forms {
     pub conditions: Items<Form>,
 }
 
-// What was gathered, as the forms of a path.
-fn finish(builder: Builder) -> Forms
+/// What was gathered, as the forms of a path.
+pub fn finish(builder: Builder) -> Forms
     ensures { result ≡ forms_in (front_of builder) }
 {
     let Builder {

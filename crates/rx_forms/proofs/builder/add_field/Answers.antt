@@ -47,11 +47,11 @@ returns c =
     let old = formed_all c.args.builder.now.fields.items in
     record {
       gone = same_front _ _
-      (c.in_ok-push_field.ensures
-      ∙ ap (λ (g : Linear). old ++ (record { field = c.args.field; first = c.args.first; size = c.args.size; end = g; number = number_by c.variable_at-variable.result }) ∷ []) c.in_ok-end.ensures.value
-      ∙ ap (λ (g : Linear). old ++ (record { field = c.args.field; first = c.args.first; size = c.args.size; end = plus c.args.first c.args.size; number = g }) ∷ []) c.variable_at-variable.ensures)
-      (ap (λ (k : ℕ). c.args.builder.now.scalar + k) c.scalars_in.ensures.value)
-      refl refl c.in_ok-keep_place.ensures.firsts c.in_ok-keep_place.ensures.sizes refl;
+          (c.in_ok-push_field.ensures
+          ∙ ap (λ (g : Linear). old ++ (record { field = c.args.field; first = c.args.first; size = c.args.size; end = g; number = number_by c.variable_at-variable.result }) ∷ []) c.in_ok-end.ensures.value
+          ∙ ap (λ (g : Linear). old ++ (record { field = c.args.field; first = c.args.first; size = c.args.size; end = plus c.args.first c.args.size; number = g }) ∷ []) c.variable_at-variable.ensures)
+          (ap (λ (k : ℕ). c.args.builder.now.scalar + k) c.scalars_in.ensures.value)
+          refl refl c.in_ok-keep_place.ensures.firsts c.in_ok-keep_place.ensures.sizes refl;
       low = c.in_ok-end.ensures.low;
       limit = tt;
     }
