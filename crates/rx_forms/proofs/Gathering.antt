@@ -10,10 +10,10 @@ use Rattle.rx_forms.specs.Steps.{Step, first_form, size_form, condition_form, di
 use Rattle.rx_forms.specs.Gathered.{met_at, past, conditions_from, rows_from, met_from}
 use Rattle.rx_forms.specs.Fronts
 
-le_back : (a b : ℕ) → a ≤ b → nat_le b 190 ≡ true → nat_le a 190 ≡ true
+pub le_back : (a b : ℕ) → a ≤ b → nat_le b 190 ≡ true → nat_le a 190 ≡ true
 le_back a b h e = grind (arith, h, e)
 
-joins : (p q a b w : Bool) → (q ≡ true → p ≡ true) → (p ≡ true → w ≡ (q && b)) → ((p && a) && w) ≡ (q && (a && b))
+pub joins : (p q a b w : Bool) → (q ≡ true → p ≡ true) → (p ≡ true → w ≡ (q && b)) → ((p && a) && w) ≡ (q && (a && b))
 joins true q true b w f g = g refl
 joins true true false b w f g = refl
 joins true false false b w f g = refl
@@ -57,7 +57,7 @@ module _ (domains : List Domain) (m : Graph) where
   next_above : (step : Step) → step.division ≤ next_division domains m step
   next_above step = omega arith
 
-  division_above : (d : ℕ) (links : List Arrow) → d ≤ division_after domains m d links
+  pub division_above : (d : ℕ) (links : List Arrow) → d ≤ division_after domains m d links
   division_above d [] = omega arith
   division_above d (link ∷ links) =
       let step : Step = record { before = []; scalar = 0; division = d; link = link; field = target_field link.target } in
@@ -100,7 +100,7 @@ module _ (domains : List Domain) (m : Graph) where
   ends_sizes front [] = refl
   ends_sizes front (link ∷ links) = ends_sizes (Fronts.after_end domains m front link) links
 
-  past_above : (n : ℕ) (links : List Arrow) → n ≤ past n links
+  pub past_above : (n : ℕ) (links : List Arrow) → n ≤ past n links
   past_above n [] = omega arith
   past_above n (link ∷ links) = let b = past_above (n + divisions_in link.condition) links in omega (arith, b)
 

@@ -6,13 +6,13 @@ use Rattle.rx_forms.specs.Normal.{Formed, linear, divisions_in, condition, agree
 use Rattle.rx_forms.specs.Divisions.{divisions}
 use Rattle.rx_forms.specs.Limits.{of_sides, met, met_in_both, all_kept, is_within}
 
-nothing_more : (n d : ℕ) → n + (0 + d) ≡ n + d
+pub nothing_more : (n d : ℕ) → n + (0 + d) ≡ n + d
 nothing_more n d = omega arith
 
-nothing_behind : (n d : ℕ) → n + (d + 0) ≡ n + d
+pub nothing_behind : (n d : ℕ) → n + (d + 0) ≡ n + d
 nothing_behind n d = omega arith
 
-from_here : (n : ℕ) → n + 0 ≡ n
+pub from_here : (n : ℕ) → n + 0 ≡ n
 from_here n = omega arith
 
 module _ (limit : ℕ → ℕ) (fields : List Formed) (n : ℕ) (t : Bool) where

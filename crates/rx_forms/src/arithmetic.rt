@@ -4,7 +4,7 @@ ghost use Rattle.std.specs.Prelude.{◌≡◌, ℕ, [], ◌∷◌, ◌++◌, get
 ghost use Rattle.std.specs.List.{list_all};
 ghost use Rattle.rx_model.specs.Sums.{weighted_sum};
 ghost use Rattle.rx_forms.specs.Linear.{constant, term, weighted, plus, minus, times, less_one};
-ghost use Rattle.rx_forms.specs.Limits.{is_word, has_words};
+ghost use Rattle.rx_forms.specs.Limits.{is_word, is_low, has_words};
 ghost use Rattle.rx_forms.specs.Code.{sign};
 
 use crate::fault::FormFault;
@@ -205,16 +205,13 @@ pub fn scaled(alloc: Global, factor: i128, form: &Linear) -> Result<Linear, Form
     })
 }
 
-/// The sum less 1, if its constant has 128 bits.
-pub fn one_less(form: Linear) -> Result<Linear, FormFault>
-    ensures value { IfOk result (λ f. f ≡ less_one form) }
-    ensures limit { IfErr result (λ e. has_words (less_one form) ≡ false) }
+/// The sum less 1.
+pub fn one_less(form: Linear) -> Linear
+    requires low { is_low form ≡ true }
+    ensures { result ≡ less_one form }
 {
-    let Some(constant) = form.constant.checked_sub(1) else {
-        return Err(FormFault::PathLimit);
-    };
-    Ok(Linear {
+    Linear {
         coefficients: form.coefficients,
-        constant,
-    })
+        constant: form.constant - 1,
+    }
 }

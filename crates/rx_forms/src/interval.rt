@@ -1,25 +1,29 @@
 // Intervals and values of narrow expressions, and the scalar types of fields.
 
-ghost use Rattle.std.specs.Prelude.{◌≡◌, ◌^◌, ◌<◌, ◌-◌, pos, MatchOption, Some, None};
+ghost use Rattle.std.specs.Prelude.{◌≡◌, ℕ, ◌^◌, ◌<◌, ◌-◌, pos, MatchOption, Some, None};
 ghost use Rattle.rx_types.specs.Domain.{domain_of, greatest_of, greatest, numbers_of};
 ghost use Rattle.rx_types.specs.Narrow.{interval_of, interval_by, IsNarrow, IsShort, IsDivisorIn};
 ghost use Rattle.rx_types.specs.Static.{is_arithmetic, is_static, static_value};
 ghost use Rattle.rx_types.specs.Tree.{tree_of};
-ghost use Rattle.rx_graph.specs.Graph.{graph_of, domains_of, type_of};
-ghost use Rattle.rx_forms.specs.Code.{limits_of};
+ghost use Rattle.rx_graph.specs.Graph.{graph_of, type_of};
+ghost use Rattle.rx_forms.specs.Code.{domains_in, limits_in};
 
-use rx_graph::{Message, Spec};
+use rx_graph::{Message, Scalar};
 use rx_types::{
     Env, Expr, FieldId, FieldType, Interval, Literal, Operator, ScalarType, bounds, negation, value,
 };
 
 /// The scalar type of a field, if it is a scalar.
-pub fn scalar_type<'a>(message: &Message, spec: &'a Spec, field: FieldId) -> Option<&'a ScalarType>
-    ensures { MatchOption result (type_of (domains_of spec.now) (graph_of message.now) field ≡ None) (λ t. type_of (domains_of spec.now) (graph_of message.now) field ≡ Some (domain_of t.now)) }
+pub fn scalar_type<'a>(
+    message: &Message,
+    scalars: &'a [Scalar],
+    field: FieldId,
+) -> Option<&'a ScalarType>
+    ensures { MatchOption result (type_of (domains_in scalars.now) (graph_of message.now) field ≡ None) (λ t. type_of (domains_in scalars.now) (graph_of message.now) field ≡ Some (domain_of t.now)) }
 {
     let field = message.fields.get(field as usize)?;
     match field.kind {
-        FieldType::Scalar(id) => match spec.scalars.get(id as usize) {
+        FieldType::Scalar(id) => match scalars.get(id as usize) {
             Some(scalar) => Some(&scalar.kind),
             None => None,
         },
@@ -51,8 +55,8 @@ fn is_arithmetic(operator: Operator) -> bool
 }
 
 /// The value of a static expression.
-pub fn static_number(expr: &Expr, message: &Message, spec: &Spec) -> i128
-    requires narrow { IsNarrow (limits_of spec.now message.now) (tree_of expr.now) }
+pub fn static_number(expr: &Expr) -> i128
+    requires narrow { (limit : ℕ → ℕ) × IsNarrow limit (tree_of expr.now) }
     ensures { result ≡ static_value (tree_of expr.now) }
 {
     value(expr, &Env::new(0))
@@ -99,20 +103,20 @@ fn all_ones(size: u8) -> i128
 }
 
 // The greatest number of a field, 0 where it is no scalar.
-fn limit_of(message: &Message, spec: &Spec, field: FieldId) -> i128
-    requires small { limits_of spec.now message.now field < 2 ^ 100 }
-    ensures { result ≡ pos (limits_of spec.now message.now field) }
+fn limit_of(message: &Message, scalars: &[Scalar], field: FieldId) -> i128
+    requires small { limits_in scalars.now message.now field < 2 ^ 100 }
+    ensures { result ≡ pos (limits_in scalars.now message.now field) }
 {
-    match scalar_type(message, spec, field) {
+    match scalar_type(message, scalars, field) {
         Some(scalar) => greatest(scalar),
         None => 0,
     }
 }
 
 /// Between which numbers a narrow expression lies.
-pub fn interval(expr: &Expr, message: &Message, spec: &Spec) -> Interval
-    requires narrow { IsNarrow (limits_of spec.now message.now) (tree_of expr.now) }
-    ensures value { result ≡ interval_of (limits_of spec.now message.now) (tree_of expr.now) }
+pub fn interval(expr: &Expr, message: &Message, scalars: &[Scalar]) -> Interval
+    requires narrow { IsNarrow (limits_in scalars.now message.now) (tree_of expr.now) }
+    ensures value { result ≡ interval_of (limits_in scalars.now message.now) (tree_of expr.now) }
     ensures short { IsShort result }
 {
     match expr {
@@ -122,7 +126,7 @@ pub fn interval(expr: &Expr, message: &Message, spec: &Spec) -> Interval
         },
         Expr::Field(field) => Interval {
             low: 0,
-            high: limit_of(message, spec, *field),
+            high: limit_of(message, scalars, *field),
         },
         Expr::First(_) | Expr::Size(_) | Expr::Total => Interval {
             low: 0,
@@ -133,12 +137,12 @@ pub fn interval(expr: &Expr, message: &Message, spec: &Spec) -> Interval
             high: 1 << 27,
         },
         Expr::Neg(part) => {
-            let inner = interval(part, message, spec);
+            let inner = interval(part, message, scalars);
             negation(inner.low, inner.high)
         }
         Expr::Binary(operator, left, right) => {
-            let left = interval(left, message, spec);
-            let right = interval(right, message, spec);
+            let left = interval(left, message, scalars);
+            let right = interval(right, message, scalars);
             operated(*operator, left, right)
         }
         Expr::Truth(true) => Interval { low: 1, high: 1 },

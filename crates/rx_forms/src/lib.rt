@@ -2,22 +2,34 @@
 #![tactic(auto)]
 
 mod arithmetic;
+mod aspect;
 mod builder;
+mod condition;
+mod division;
 mod entry;
 mod fault;
 mod field;
 mod forms;
+mod gather;
 mod interval;
 mod laws;
 mod limit;
 mod linear;
+mod number;
 mod work;
 
+pub use aspect::{first_form, size_form};
+pub use builder::{Builder, add_condition, add_link, start};
+pub use condition::condition_form;
+pub use division::divide;
 pub use fault::{FormFault, NoMemory};
-pub use forms::Forms;
+pub use field::FieldForms;
+pub use forms::{Forms, finish, forms_of, forms_with};
 pub use laws::{
     facts_hold_where_conditions_do, links_have_forms, partial_paths_make_rows,
     quotients_solve_divisions, rows_hold_of_quotients, rows_leave_quotients_no_choice,
     rows_make_paths_partial, sums_have_values,
 };
 pub use linear::{Form, Linear};
+pub use number::number_form;
+pub use work::Work;

@@ -1,0 +1,52 @@
+use Rattle.std.proofs.Common.{◌≡◌, refl, sym, ap, ◌∙◌, subst, ℕ, ◌+◌, ◌≤◌, ◌<◌, arith, Bool, true, false, not, ◌&&◌, IfOk, IfErr, OnOk}
+use Rattle.std.proofs.lemmas.Result.{err_from_is_err_and, IfOk-from_err, on_ok_weaker}
+use Rattle.rx_graph.specs.Graph.{graph_of, limit_of}
+use Rattle.rx_forms.specs.declared.forms.Forms.{Forms}
+use Rattle.rx_forms.specs.Gathered.{into_fields, passes_limit, forms_along}
+use Rattle.rx_forms.specs.Steps.{links_on, scalars_on}
+use Rattle.rx_forms.specs.Code.{domains_in}
+use Rattle.rx_forms.specs.Fronts.{Front, front_of, forms_in, first_front, after_links, links_within, after_ends, ends_within, ends_of, after_path, path_within}
+use Rattle.rx_forms.proofs.Kept.{off_left, off_right, on_both}
+use Rattle.rx_forms.proofs.Looping
+use Rattle.rx_forms.proofs.Telling
+use Rattle.rx_forms.proofs.Reaching.{both_ok, fails_too}
+use Rattle.rx_forms.proofs.forms.gather_all.Goals as goal
+
+pub gather_path-requires : goal.gather_path-requires
+gather_path-requires c = record { formable = c.requires.formable; narrow = c.requires.narrow; few = c.requires.few; room = c.requires.room }
+
+pub returns-in_err-gather_path : goal.returns-in_err-gather_path
+returns-in_err-gather_path c =
+    let domains = domains_in c.args.scalars.now in
+    let m = graph_of c.args.message.now in
+    let path = c.args.path.now in
+    let front = front_of c.args.builder.now in
+    let mid = after_links domains m front (into_fields (links_on domains m path)) in
+    let end = after_ends domains m mid (ends_of false (links_on domains m path)) in
+    let a = links_within domains m front (into_fields (links_on domains m path)) in
+    let b = ends_within domains m mid (ends_of false (links_on domains m path)) in
+    let d = ends_within domains m end (links_on domains m c.args.out.now) in
+    let p = err_from_is_err_and c.from_residual.result c.from_residual.ensures.1 in
+    record {
+      gone = IfOk-from_err c.from_residual.result _ c.from_residual.ensures.0;
+      within = IfOk-from_err c.from_residual.result _ c.from_residual.ensures.0;
+      limit = rw (p.1, p.2) (λ e. Telling.fails_before a b d (c.in_err-gather_path.ensures.limit e));
+    }
+
+pub gather_ends-requires : goal.gather_ends-requires
+gather_ends-requires c = record { formable = c.requires.formable; narrow = c.requires.narrow; room = c.in_ok-gather_path.ensures.room }
+
+pub returns : goal.returns
+returns c =
+    let domains = domains_in c.args.scalars.now in
+    let m = graph_of c.args.message.now in
+    let path = c.args.path.now in
+    let out = links_on domains m c.args.out.now in
+    let g = c.in_ok-gather_path.ensures in
+    let r = c.gather_ends.result in
+    let t = ap (λ (x : Front). ends_within domains m x out) g.gone in
+    record {
+      gone = on_ok_weaker r (λ h. h ∙ ap (λ (x : Front). after_ends domains m x out) g.gone) c.gather_ends.ensures.gone;
+      within = on_ok_weaker r (λ h. on_both _ _ g.within (on_both _ _ g.ends (sym t ∙ h))) c.gather_ends.ensures.within;
+      limit = fails_too r _ _ (λ h. off_right _ _ (off_right _ _ (sym t ∙ h))) c.gather_ends.ensures.limit;
+    }

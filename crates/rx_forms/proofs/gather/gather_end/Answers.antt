@@ -1,0 +1,50 @@
+use Rattle.std.proofs.Common.{◌≡◌, refl, sym, ap, ◌∙◌, subst, ℕ, ◌≤◌, ◌<◌, ◌^◌, arith, List, [], ◌∷◌, ◌++◌, Bool, true, false, not, ◌||◌, IfErr, OnOk, Some, None, slice_get}
+use Rattle.std.proofs.lemmas.Result.{err_from_is_err_and, IfOk-from_err, on_ok_weaker}
+use Rattle.rx_graph.specs.Graph.{Arrow, graph_of, arrow_of, arrows}
+use Rattle.rx_forms.specs.declared.fault.FormFault.TheVariants.{PathLimit}
+use Rattle.rx_forms.specs.Gathered.{into_fields}
+use Rattle.rx_forms.specs.Steps.{links_on, leads_to_field}
+use Rattle.rx_forms.specs.Code.{domains_in, limits_in}
+use Rattle.rx_forms.specs.Fronts.{front_of, after_links, links_within, after_ends, ends_within, ends_of}
+use Rattle.rx_forms.proofs.Kept.{off_left, on_both}
+use Rattle.rx_forms.proofs.Looping
+use Rattle.rx_forms.proofs.Reaching.{fails_too}
+use Rattle.rx_forms.proofs.gather.gather_end.Goals as goal
+
+pub add_condition-requires : goal.add_condition-requires
+add_condition-requires c =
+    let link = arrow_of c.args.link.now in
+    let i = c.requires.link in
+    record {
+      condition = (c.requires.formable i.0 link i.1).condition;
+      narrow = (c.requires.narrow i.0 link i.1).condition;
+      room = c.requires.room;
+    }
+
+pub returns-then-is_asked : goal.returns-then-is_asked
+returns-then-is_asked c =
+    let domains = domains_in c.args.scalars.now in
+    let m = graph_of c.args.message.now in
+    let front = front_of c.args.builder.now in
+    let link = arrow_of c.args.link.now in
+    let r = c.add_condition.result in
+    let new = front_of c.add_condition.new.builder in
+    let e = sym (Looping.ends_one c.args.all link (sym c.is_asked.ensures ∙ c.if-is_asked.true)) in
+    record {
+      gone = subst (λ (ls : List Arrow). OnOk r (new ≡ after_ends domains m front ls)) e c.add_condition.ensures.gone;
+      within = subst (λ (ls : List Arrow). OnOk r (ends_within domains m front ls ≡ true)) e (on_ok_weaker r (λ h. on_both _ _ h refl) c.add_condition.ensures.within);
+      limit = subst (λ (ls : List Arrow). IfErr r (λ x. x ≡ PathLimit → ends_within domains m front ls ≡ false)) e (fails_too r _ _ (λ h. off_left _ _ h) c.add_condition.ensures.limit);
+    }
+
+pub returns-else-is_asked : goal.returns-else-is_asked
+returns-else-is_asked c =
+    let domains = domains_in c.args.scalars.now in
+    let m = graph_of c.args.message.now in
+    let front = front_of c.args.builder.now in
+    let link = arrow_of c.args.link.now in
+    let e = Looping.ends_none c.args.all link (sym c.is_asked.ensures ∙ c.if-is_asked.false) in
+    record {
+      gone = sym (ap (λ (ls : List Arrow). after_ends domains m front ls) e);
+      within = ap (λ (ls : List Arrow). ends_within domains m front ls) e;
+      limit = tt;
+    }

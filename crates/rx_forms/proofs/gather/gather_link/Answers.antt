@@ -1,0 +1,55 @@
+use Rattle.std.proofs.Common.{◌≡◌, refl, sym, ap, ◌∙◌, subst, ℕ, ◌≤◌, ◌<◌, ◌^◌, arith, List, [], ◌∷◌, ◌++◌, Bool, true, false, not, ◌||◌, IfErr, OnOk, Some, None, slice_get}
+use Rattle.std.proofs.lemmas.Result.{err_from_is_err_and, IfOk-from_err, on_ok_weaker}
+use Rattle.rx_graph.specs.Graph.{Arrow, graph_of, arrow_of, arrows}
+use Rattle.rx_forms.specs.declared.fault.FormFault.TheVariants.{PathLimit}
+use Rattle.rx_forms.specs.Gathered.{into_fields}
+use Rattle.rx_forms.specs.Steps.{links_on, leads_to_field}
+use Rattle.rx_forms.specs.Code.{domains_in, limits_in}
+use Rattle.rx_forms.specs.Fronts.{front_of, after_links, links_within, after_ends, ends_within, ends_of}
+use Rattle.rx_forms.proofs.Kept.{off_left, on_both}
+use Rattle.rx_forms.proofs.Looping
+use Rattle.rx_forms.proofs.Reaching.{fails_too}
+use Rattle.rx_forms.proofs.gather.gather_link.Goals as goal
+
+small : (n : ℕ) → n ≤ 190 → n < 2 ^ 32
+small n h = omega (arith, h)
+
+pub add_link-requires : goal.add_link-requires
+add_link-requires c =
+    let link = arrow_of c.args.link.now in
+    let i = c.requires.link in
+    record {
+      formable = c.requires.formable i.0 link i.1;
+      narrow = c.requires.narrow i.0 link i.1;
+      target = c.in-At.is;
+      small = small c.args.builder.now.scalar c.requires.few;
+      room = c.requires.room;
+    }
+
+pub returns-in-At : goal.returns-in-At
+returns-in-At c =
+    let domains = domains_in c.args.scalars.now in
+    let m = graph_of c.args.message.now in
+    let front = front_of c.args.builder.now in
+    let link = arrow_of c.args.link.now in
+    let r = c.add_link.result in
+    let new = front_of c.add_link.new.builder in
+    let e = sym (Looping.fields_one link (Looping.is_field link c.in-At.field c.in-At.is)) in
+    record {
+      gone = subst (λ (ls : List Arrow). OnOk r (new ≡ after_links domains m front ls)) e c.add_link.ensures.gone;
+      within = subst (λ (ls : List Arrow). OnOk r (links_within domains m front ls ≡ true)) e (on_ok_weaker r (λ h. on_both _ _ h refl) c.add_link.ensures.within);
+      limit = subst (λ (ls : List Arrow). IfErr r (λ x. x ≡ PathLimit → links_within domains m front ls ≡ false)) e (fails_too r _ _ (λ h. off_left _ _ h) c.add_link.ensures.limit);
+    }
+
+pub returns-in_default : goal.returns-in_default
+returns-in_default c =
+    let domains = domains_in c.args.scalars.now in
+    let m = graph_of c.args.message.now in
+    let front = front_of c.args.builder.now in
+    let link = arrow_of c.args.link.now in
+    let e = sym (Looping.fields_none link (Looping.is_no_field link c.in_default.not-At)) in
+    record {
+      gone = ap (λ (ls : List Arrow). after_links domains m front ls) e;
+      within = sym (ap (λ (ls : List Arrow). links_within domains m front ls) e);
+      limit = tt;
+    }
