@@ -1,0 +1,8 @@
+//! Messages that are written field by field into a buffer.
+#![tactic(auto)]
+
+mod fault;
+mod stepping;
+mod writing;
+
+pub use fault::PutFault;
