@@ -1,3 +1,5 @@
+pub mod ContentBits
 pub mod Ends
 pub mod SameBytes
+pub mod Settled
 pub mod Taking
