@@ -1,6 +1,7 @@
 -- At most one link is taken behind the fields of a draft.
-use Rattle.std.proofs.Common.{◌≡◌, ℕ, ◌*◌, List, length, Bool, true, false, Option, Some, None, IsSome, IsTrue, ◌↔◌, refl, sym, ap, ◌∙◌, subst}
+use Rattle.std.proofs.Common.{◌≡◌, ℕ, ◌*◌, List, length, Bool, true, false, Option, Some, None, IsSome, IsTrue, ◌↔◌, refl, sym, ap, ◌∙◌, subst, arith}
 use Rattle.std.specs.Prelude.{pos, slice_get}
+use Rattle.std.proofs.lemmas.Int.{ints}
 use Rattle.rx_types.specs.Domain.{Domain, IsNumberOf}
 use Rattle.rx_types.specs.Environment.{Environment}
 use Rattle.rx_graph.specs.declared.message.Node.TheVariants.{At}
@@ -12,6 +13,7 @@ use Rattle.rx_graph.proofs.Unique.{at_field, at_null, some_same}
 use Rattle.rx_context.specs.Plan.{Planned}
 use Rattle.rx_draft.specs.Drafts.{StandsForSound, IsUnderway, end_node}
 use Rattle.rx_draft.specs.Puts.{TakesTo, IsNext, HasValue, HasSize, Lies}
+use Rattle.rx_draft.specs.Steps.{LiesAt}
 
 clash : true ≡ false → ⊥
 clash e = cc
@@ -58,6 +60,13 @@ module _ (domains : List Domain) (m : Graph) (p : Planned) (s : StandsForSound d
   pub has_size : (f : ℕ) (link : Arrow) (bytes : List ℕ) → TakesTo m e f link → size_to domains m link e f ≡ pos (8 * length bytes) → HasSize domains m e f (Bytes bytes)
   has_size f link bytes t size other more v is =
       ap (λ l. size_to domains m l e f) (same_link f f other link v t) ∙ size ∙ ap (λ b. pos (8 * length b)) (bytes_same bytes more is)
+
+  -- a field that lies within the message, wherever a link that is taken leads to it
+  pub lies_here : (f first size : ℕ) → LiesAt domains m e f first size → Lies domains m e f
+  lies_here f first size l other v =
+      let within : LiesWithin e (pos first) (pos size) = let ends = l.4 in record { begins = omega (arith, ints); long = omega (arith, ints); ends = omega (arith, ints, ends) } in
+      let here = subst (λ z. LiesWithin e z (size_to domains m l.0 e f)) (sym l.2) (subst (λ z. LiesWithin e (pos first) z) (sym l.3) within) in
+      subst (λ k. LiesWithin e (first_of k e) (size_to domains m k e f)) (same_link f f l.0 other l.1 v) here
 
 -- bytes are no number, and a number is no bytes
 pub bytes_have_value : (domains : List Domain) (m : Graph) (e : Environment) (f : ℕ) (bytes : List ℕ) → HasValue domains m e f (Bytes bytes)

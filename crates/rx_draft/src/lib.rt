@@ -2,6 +2,7 @@
 #![tactic(auto)]
 
 mod fault;
+mod putting;
 mod stepping;
 mod writing;
 
