@@ -1,13 +1,13 @@
 //! Where a field is to be put, or why it is not put there.
 
-ghost use Rattle.std.specs.Prelude.{◌≡◌, ℕ, ◌+◌, ◌*◌, ◌<◌, ◌≤◌, ◌^◌, List, length, IfOk, IfErr, IsTrue, ◌↔◌};
+ghost use Rattle.std.specs.Prelude.{◌≡◌, ℕ, ◌+◌, ◌*◌, ◌<◌, ◌≤◌, ◌^◌, List, length, IfOk, IfErr, IfSome, IfNone, IsTrue, ◌↔◌};
 ghost use Rattle.rx_types.specs.Domain.{Domain};
-ghost use Rattle.rx_types.specs.Environment.{places};
+ghost use Rattle.rx_types.specs.Environment.{places, end_of, bits_of};
 ghost use Rattle.rx_graph.specs.Fits.{Assigned, Number, Bytes};
 ghost use Rattle.rx_graph.specs.Graph.{Graph};
 ghost use Rattle.rx_context.specs.Steps.{IsTaken};
 ghost use Rattle.rx_draft.specs.Drafts.{StandsForSound, IsUnderway, end_node};
-ghost use Rattle.rx_draft.specs.Puts.{IsScalar, IsOpaque, HasValue, HasSize, Refuses};
+ghost use Rattle.rx_draft.specs.Puts.{IsScalar, IsOpaque, IsNext, IsAtNull, IsDone, HasValue, HasSize, Refuses};
 ghost use Rattle.rx_draft.specs.Steps.{LiesAt, IsPlaced};
 
 use crate::fault::PutFault;
@@ -132,4 +132,62 @@ pub fn place_of_bytes(
         }
         Place::Elsewhere => Err(PutFault::NotNext),
     }
+}
+
+/// The field that is the next, if any.
+pub fn next_field(plan: &Plan, env: &Env) -> Option<FieldId>
+    requires { IsUnderway plan.now env.now }
+    ensures some { IfSome result (λ f. (domains : List Domain) (m : Graph) → StandsForSound domains m plan.now → IsNext m env.now f) }
+    ensures none { IfNone result ((domains : List Domain) (m : Graph) (f : ℕ) → StandsForSound domains m plan.now → IsNext m env.now f → ⊥) }
+{
+    match taken(plan, env) {
+        Taken::To { field, .. } => Some(field),
+        Taken::Short { field, .. } => Some(field),
+        Taken::Null => None,
+        Taken::Nothing => None,
+    }
+}
+
+/// Whether the path ends here.
+pub fn is_at_null(plan: &Plan, env: &Env) -> bool
+    requires { IsUnderway plan.now env.now }
+    ensures { (domains : List Domain) (m : Graph) → StandsForSound domains m plan.now → (IsTrue result ↔ IsAtNull domains m env.now) }
+{
+    match taken(plan, env) {
+        Taken::To { .. } => false,
+        Taken::Short { .. } => false,
+        Taken::Null => true,
+        Taken::Nothing => false,
+    }
+}
+
+// Whether the last field ends with the message.
+fn ends(env: &Env) -> bool
+    ensures { IsTrue result ↔ (end_of env.now.fields ≡ bits_of env.now) }
+{
+    match env.entries().last() {
+        None => {
+            if env.total() == 0 {
+                return true;
+            }
+            false
+        }
+        Some(entry) => {
+            if entry.first as u64 + entry.size as u64 == env.total() as u64 * 8 {
+                return true;
+            }
+            false
+        }
+    }
+}
+
+/// Whether the path ends here, and the message with it.
+pub fn is_done(plan: &Plan, env: &Env) -> bool
+    requires { IsUnderway plan.now env.now }
+    ensures { (domains : List Domain) (m : Graph) → StandsForSound domains m plan.now → (IsTrue result ↔ IsDone domains m env.now) }
+{
+    if is_at_null(plan, env) {
+        return ends(env);
+    }
+    false
 }
