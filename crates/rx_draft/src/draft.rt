@@ -4,7 +4,9 @@ ghost use Rattle.std.specs.Prelude.{◌≡◌, ◌↔◌, ℕ, ◌<◌, ◌≤�
 ghost use Rattle.rx_types.specs.Domain.{Domain};
 ghost use Rattle.rx_graph.specs.Fits.{Number, Bytes, ReadsAs};
 ghost use Rattle.rx_graph.specs.Graph.{Graph};
-ghost use Rattle.rx_draft.specs.Drafts.{StandsForSound, IsSoundPlan, environment_of};
+ghost use Rattle.rx_types.specs.Environment.{IsAmong};
+ghost use Rattle.rx_graph.specs.Stuck.{field_of};
+ghost use Rattle.rx_draft.specs.Drafts.{StandsForSound, IsSoundPlan, IsDraft, environment_of, end_node};
 ghost use Rattle.rx_draft.specs.Puts.{IsScalar, IsOpaque, IsNext, IsAtNull, IsDone, Refuses, HasPut, values_of};
 ghost use Rattle.rx_draft.specs.Seals.{KeepsRest};
 
@@ -61,6 +63,7 @@ impl<'b> Draft<'b> {
 
     /// The field that is the next, if there is one.
     pub fn next(&self) -> Option<FieldId>
+        ensures draft { IsDraft self.now }
         ensures some { IfSome result (λ f. (domains : List Domain) (m : Graph) → StandsForSound domains m self.now.plan → IsNext m (environment_of self.now) f) }
         ensures none { IfNone result ((domains : List Domain) (m : Graph) (f : ℕ) → StandsForSound domains m self.now.plan → IsNext m (environment_of self.now) f → ⊥) }
     {
@@ -101,6 +104,23 @@ impl<'b> Draft<'b> {
     {
         let plan = self.plan;
         put_bytes(plan, &mut *self.buffer, &mut self.env, field, bytes)
+    }
+
+    /// The field that was put last, if any was.
+    pub fn last(&self) -> Option<FieldId>
+        ensures { result ≡ field_of (end_node self.now.fields) }
+    {
+        match self.env.entries().last() {
+            None => None,
+            Some(entry) => Some(entry.field),
+        }
+    }
+
+    /// Whether the field was put.
+    pub fn present(&self, field: FieldId) -> bool
+        ensures { IsTrue result ↔ IsAmong field self.now.fields }
+    {
+        self.env.has(field)
     }
 
     // Whether the path ends here, and the message with it.

@@ -38,7 +38,7 @@ impl<'b> Model for Sealed<'b> {
 
 impl<'b> Sealed<'b> {
     /// The message whose fields these are.
-    pub fn of(buffer: &'b mut [u8], plan: &'b Plan, env: Env) -> Sealed<'b>
+    pub(crate) fn of(buffer: &'b mut [u8], plan: &'b Plan, env: Env) -> Sealed<'b>
         requires { IsSealed (drafted buffer.old plan.now env) }
         ensures { result ≡ drafted buffer.old plan.now env }
     {
