@@ -9,7 +9,7 @@ ghost use Rattle.rx_draft.specs.Drafts.{StandsForSound, IsDraft, environment_of,
 ghost use Rattle.rx_draft.specs.Puts.{IsNext, IsAtNull, Refuses as RefusesPut, HasPut, values_of};
 ghost use Rattle.rx_draft.specs.Seals.{KeepsRest};
 ghost use Rattle.rx_values.specs.Valuation.{content};
-ghost use Rattle.rx_serial.specs.Filling.{Gives, reason_of as reason_of_lem};
+ghost use Rattle.rx_serial.specs.Filling.{Gives, IsRefused, reason_of as reason_of_lem};
 ghost use Rattle.rx_serial.specs.Rooms.{IsOfKind, HaveKinds};
 ghost use Rattle.rx_serial.specs.Unfit.{Refuses, IsUnused};
 
@@ -47,6 +47,22 @@ fn reason_of(fault: PutFault) -> UnfitReason
     }
 }
 
+// Puts a value into the place of the next field, or tells that the walk does not go on to it.
+fn give<'b>(draft: &mut Draft<'b>, field: FieldId, value: &Value) -> Result<(), WriteFault>
+    requires { (domains : List Domain) (m : Graph) → StandsForSound domains m draft.old.plan → IsOfKind (type_of domains m field) (content value.now) }
+    ensures plan { draft.new.plan ≡ draft.old.plan }
+    ensures total { draft.new.total ≡ draft.old.total }
+    ensures put { OnOk result ((domains : List Domain) (m : Graph) → StandsForSound domains m draft.old.plan → HasPut domains m draft.old draft.new field (content value.now)) }
+    ensures refused { IfErr result (λ why. (domains : List Domain) (m : Graph) → StandsForSound domains m draft.old.plan → IsRefused domains m draft.old field (content value.now) why) }
+    ensures same { OnErr result (draft.new ≡ draft.old) }
+    ensures rest { (start : List ℕ) → KeepsRest start draft.old → KeepsRest start draft.new }
+{
+    match put_value(draft, field, value) {
+        Ok(()) => Ok(()),
+        Err(fault) => Err(WriteFault::Unsatisfied(Some(field), reason_of(fault))),
+    }
+}
+
 // Puts what the valuation gives the next field.
 fn step<'b>(
     valuation: &Valuation,
@@ -65,12 +81,9 @@ fn step<'b>(
     ensures same { OnErr result (draft.new ≡ draft.old) }
     ensures rest { (start : List ℕ) → KeepsRest start draft.old → KeepsRest start draft.new }
 {
-    let Some(value) = valuation.get(field) else {
-        return Err(WriteFault::Unsatisfied(Some(field), UnfitReason::Missing));
-    };
-    match put_value(draft, field, value) {
-        Ok(()) => Ok(()),
-        Err(fault) => Err(WriteFault::Unsatisfied(Some(field), reason_of(fault))),
+    match valuation.get(field) {
+        Some(value) => give(draft, field, value),
+        None => Err(WriteFault::Unsatisfied(Some(field), UnfitReason::Missing)),
     }
 }
 
@@ -87,12 +100,12 @@ pub fn fill<'b>(valuation: &Valuation, draft: &mut Draft<'b>) -> Result<(), Writ
     ensures rest { (start : List ℕ) → KeepsRest start draft.old → KeepsRest start draft.new }
 {
     loop {
-        let Some(field) = draft.next() else {
-            return ending(draft);
-        };
-        match step(valuation, draft, field) {
-            Ok(()) => {}
-            Err(why) => return Err(why),
+        match draft.next() {
+            Some(field) => match step(valuation, draft, field) {
+                Ok(()) => {}
+                Err(why) => return Err(why),
+            },
+            None => return ending(draft),
         }
     }
 }
