@@ -180,8 +180,7 @@ module _ (p : Planned) (old : List ℕ) (e : Environment) (d : IsDraft (drafted 
         let t = w.at.1 in
         let places = placing.places domains m new e (end_node e.fields) f link t first size w.at.2 w.at.3 w.at.4 s.stands.elaborated are_read number w.read in
         let step : Leads domains m e.total e.fields (end_node e.fields) (t.index ∷ []) (at_place f first size number ∷ []) (At f) = (link, t.is, t.source, places, refl) in
-        let leads = leads_on domains m e.total [] Start on.0 e.fields (end_node e.fields) (t.index ∷ []) (at_place f first size number ∷ []) (At f) on.1.leads step in
-        (
+        let leads = leads_on domains m e.total [] Start on.0 e.fields (end_node e.fields) (t.index ∷ []) (at_place f first size number ∷ []) (At f) on.1.leads step in (
           on.0 ++ t.index ∷ [],
           record {
             short = on.1.short;

@@ -54,8 +54,7 @@ module _ (domains : List Domain) (m : Graph) where
         let next = leads_on domains m total [] Start front before at (i ∷ []) (p ∷ []) (At p.field) lead step in
         let numbered : IsNumbered m at (number_of m.links at i) i h.0 = record { is = h.1; source = h.2; number = refl } in
         let first : p.first ≡ first_of h.0 e = ap (λ (x : Placed). x.first) h.3.place in
-        let size : p.size ≡ size_of_target (type_of domains m p.field) h.0 e = ap (λ (x : Placed). x.size) h.3.place in
-        (
+        let size : p.size ≡ size_of_target (type_of domains m p.field) h.0 e = ap (λ (x : Placed). x.size) h.3.place in (
           record {
             begins = h.3.within.begins;
             long = h.3.within.long;

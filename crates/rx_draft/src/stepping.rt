@@ -61,7 +61,9 @@ fn place_of(plan: &Plan, env: &Env, field: FieldId) -> Place
             Place::Elsewhere
         }
         Taken::Short {
-            field: next, size, ..
+            field: next,
+            size,
+            ..
         } => {
             if next == field {
                 return Place::Beyond { size };

@@ -19,8 +19,7 @@ returns-then-not-set_bytes-clause-refused c =
     let f = c.args.field in
     let l = c.in-Ok.ensures.place domains m s in
     let differs = c.set_bytes.ensures.differs (λ yes. clash (sym yes ∙ c.if-not-set_bytes.true)) in
-    let x = some_field (overlay_of (slice_get m.fields f)) ((c.is_overlay.ensures domains m s.stands).0 differs.0) in
-    (
+    let x = some_field (overlay_of (slice_get m.fields f)) ((c.is_overlay.ensures domains m s.stands).0 differs.0) in (
       (l.0, l.1),
       bytes_have_value domains m e f c.args.bytes.now,
       has_size domains m c.args.plan.now s e c.requires.draft.underway f l.0 c.args.bytes.now l.1 (l.3 ∙ ap pos c.in-Ok.ensures.size),

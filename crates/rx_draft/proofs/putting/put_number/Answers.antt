@@ -40,9 +40,11 @@ returns-then-not-set_number-clause-refused c =
     let t = some_domain (type_of domains m f) (c.requires.scalar domains m s) in
     let low : c.low_order.result ≡ m.low_order = c.low_order.ensures domains m s.stands in
     let differs = c.set_number.ensures.differs (λ yes. clash (sym yes ∙ c.if-not-set_number.true)) in
-    let x = some_field (overlay_of (slice_get m.fields f)) ((c.is_overlay.ensures domains m s.stands).0 differs.0) in
-    (
-      (l.0, l.1), value, number_has_size domains m e f c.args.number, lies_here domains m c.args.plan.now s e c.requires.draft.underway f c.in-Ok.first c.in-Ok.size l,
+    let x = some_field (overlay_of (slice_get m.fields f)) ((c.is_overlay.ensures domains m s.stands).0 differs.0) in (
+      (l.0, l.1),
+      value,
+      number_has_size domains m e f c.args.number,
+      lies_here domains m c.args.plan.now s e c.requires.draft.underway f c.in-Ok.first c.in-Ok.size l,
       λ agrees. differs.1 (ap (λ b. number_in b c.args.buffer.now c.in-Ok.first c.in-Ok.size) low ∙ number_there c.args.plan.now c.args.buffer.now e c.requires.draft domains m s f c.in-Ok.first c.in-Ok.size l x.0 x.1 t.0 c.args.number t.1 (value t.0 c.args.number t.1 refl) agrees),
     )
 

@@ -13,9 +13,8 @@ returns-then-entry-total c =
 
 pub returns-else-entry-total : goal.returns-else-entry-total
 returns-else-entry-total c =
-    let end : end_of c.args.env.now.fields ≡ pos c.in-Some.entry.now.first +ℤ pos c.in-Some.entry.now.size = ap end_of (sym c.entries.ensures.entries) ∙ end_at c.entries.result.now c.in-Some.entry.now (sym c.in-Some.ensures.value) in
-    (
+    let end : end_of c.args.env.now.fields ≡ pos c.in-Some.entry.now.first +ℤ pos c.in-Some.entry.now.size = ap end_of (sym c.entries.ensures.entries) ∙ end_at c.entries.result.now c.in-Some.entry.now (sym c.in-Some.ensures.value) in (
       λ no. absurd (let e : false ≡ true = no in cc),
       λ h. let same : c.in-Some.entry.now.first + c.in-Some.entry.now.size ≡ c.args.env.now.total * 8 = (let both = sym end ∙ h in omega (arith, ints, both)) in
-        search (rules, same),
+          search (rules, same),
     )

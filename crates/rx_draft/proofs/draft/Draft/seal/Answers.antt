@@ -26,5 +26,5 @@ returns-then-is_done-clause-reads c =
     let d = drafted c.self.inside.buffer.now c.self.inside.plan.now c.self.inside.env in
     subst (λ x. (domains : List Domain) (m : Graph) → StandsForSound domains m x.plan → ReadsAs domains m (take x.total x.bytes) (values_of domains m x)) (sym c.of.ensures)
     (λ domains m s.
-      let done = subst (λ x. IsDone domains m (environment_of x)) (sym c.self.view_is) ((c.is_done.ensures domains m (subst (λ x. StandsForSound domains m x.plan) c.self.view_is s)).0 c.if-is_done.true) in
-      reads_as_put d c.self.invariant domains m s done)
+    let done = subst (λ x. IsDone domains m (environment_of x)) (sym c.self.view_is) ((c.is_done.ensures domains m (subst (λ x. StandsForSound domains m x.plan) c.self.view_is s)).0 c.if-is_done.true) in
+    reads_as_put d c.self.invariant domains m s done)
