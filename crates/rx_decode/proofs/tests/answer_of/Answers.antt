@@ -13,5 +13,5 @@ elaborated s m e f = subst (λ g. IsElaborated (domains_of s) g) (sym f) (subst 
 pub is_plain-requires : goal.is_plain-requires
 is_plain-requires c = elaborated c.args.spec.now c.args.message.now c.requires.domains c.requires.message
 
-pub make-requires-clause-elaborated : goal.make-requires-clause-elaborated
-make-requires-clause-elaborated c = elaborated c.args.spec.now c.args.message.now c.requires.domains c.requires.message
+pub plain_messages_may_be_planned-requires-clause-elaborated : goal.plain_messages_may_be_planned-requires-clause-elaborated
+plain_messages_may_be_planned-requires-clause-elaborated c = elaborated c.args.spec.now c.args.message.now c.requires.domains c.requires.message
