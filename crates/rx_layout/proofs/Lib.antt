@@ -1,0 +1,4 @@
+pub mod Along
+pub mod Domains
+pub mod Lists
+pub mod Satisfied

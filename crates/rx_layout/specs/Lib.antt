@@ -1,0 +1,4 @@
+pub mod Goals
+pub mod Parts
+pub mod QueryOf
+pub mod Types
