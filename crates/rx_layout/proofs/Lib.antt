@@ -1,5 +1,7 @@
 pub mod Along
+pub mod Asking
 pub mod Cuts
 pub mod Domains
+pub mod Ends
 pub mod Lists
 pub mod Satisfied
