@@ -3,5 +3,6 @@ pub mod Asking
 pub mod Cuts
 pub mod Domains
 pub mod Ends
+pub mod Formulas
 pub mod Lists
 pub mod Satisfied
