@@ -3,6 +3,9 @@ pub mod Asking
 pub mod Cuts
 pub mod Domains
 pub mod Ends
+pub mod Even
 pub mod Formulas
 pub mod Lists
+pub mod Numbered
+pub mod Placed
 pub mod Satisfied
