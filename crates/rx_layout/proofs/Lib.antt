@@ -6,6 +6,7 @@ pub mod Ends
 pub mod Even
 pub mod Formulas
 pub mod Lists
+pub mod Meeting
 pub mod Numbered
 pub mod Placed
 pub mod Satisfied

@@ -1,4 +1,5 @@
 pub mod Goals
+pub mod Laws
 pub mod Parts
 pub mod QueryOf
 pub mod Types
