@@ -9,4 +9,7 @@ pub mod Lists
 pub mod Meeting
 pub mod Numbered
 pub mod Placed
+pub mod Placing
 pub mod Satisfied
+pub mod Taking
+pub mod Targets
