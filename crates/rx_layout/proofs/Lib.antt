@@ -1,10 +1,13 @@
 pub mod Along
 pub mod Asking
+pub mod Covering
 pub mod Cuts
 pub mod Domains
 pub mod Ends
 pub mod Even
 pub mod Formulas
+pub mod Holding
+pub mod Whole
 pub mod Lists
 pub mod Meeting
 pub mod Numbered

@@ -41,10 +41,10 @@ use Rattle.rx_layout.proofs.Meeting.{found, placed}
 use Rattle.rx_layout.proofs.Targets.{numeric_aspect, narrow_aspect, type_at, first_value, size_value, size_quotient, size_units, quotient_units, value_within, is_off_grid}
 use Rattle.rx_layout.proofs.Lists.{meet_all}
 
-one_holds : (f : Form) (point : List ℤ) → meet_all point (f ∷ []) ≡ true → meets f point ≡ true
+pub one_holds : (f : Form) (point : List ℤ) → meet_all point (f ∷ []) ≡ true → meets f point ≡ true
 one_holds f point h = (both {a = meets f point} h).0
 
-holds_one : (f : Form) (point : List ℤ) → meets f point ≡ true → meet_all point (f ∷ []) ≡ true
+pub holds_one : (f : Form) (point : List ℤ) → meets f point ≡ true → meet_all point (f ∷ []) ≡ true
 holds_one f point h = and_true h refl
 
 module _ (domains : List Domain) (m : Graph) (el : IsElaborated domains m) (formable : AreFormable (limit_of domains m) m) (narrow : AreNarrow (limit_of domains m) m) where
@@ -194,7 +194,7 @@ module _ (domains : List Domain) (m : Graph) (el : IsElaborated domains m) (form
   end_in_bits : (total : ℕ) (z : ℤ) → total < 2 ^ 24 → pos 0 ≤ℤ z → z ≤ℤ pos (total * 8) → IsIn z places_in_bits
   end_in_bits total z s a b = record { above = a; below = omega (arith, ints, b, s) }
 
-  first_within : (total : ℕ) (path : List ℕ) (fields : List Placed) (node : Node) → IsPartial domains m total path fields node → IsIn (end_of fields) places_in_bits
+  pub first_within : (total : ℕ) (path : List ℕ) (fields : List Placed) (node : Node) → IsPartial domains m total path fields node → IsIn (end_of fields) places_in_bits
   first_within total path fields node h =
       let w = last_within total fields (ends_within domains m total [] Start path fields node h.leads) in
       end_in_bits total (end_of fields) h.short w.0 w.1

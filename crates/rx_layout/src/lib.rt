@@ -2,5 +2,7 @@
 #![tactic(auto)]
 
 mod goal;
+mod laws;
 
 pub use goal::Goal;
+pub use laws::{goals_have_points, goals_make_sound, points_meet_goals, queries_are_even};
