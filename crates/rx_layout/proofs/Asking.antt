@@ -22,7 +22,7 @@ use Rattle.rx_forms.proofs.Matching.{solves_any, rows_of_any}
 use Rattle.rx_forms.proofs.Extension.{two, quotients_length}
 use Rattle.rx_forms.proofs.Carrying.{solved_in}
 use Rattle.rx_layout.specs.QueryOf
-use Rattle.rx_layout.specs.QueryOf.{condition_forms, condition_rows, after_conditions}
+use Rattle.rx_forms.specs.Gathered.{conditions_from, rows_from, past}
 use Rattle.rx_layout.proofs.Lists.{meet_all, split, join}
 
 -- ---- conditions of links
@@ -45,7 +45,7 @@ abbrev pub condition_quotients : List Arrow → Environment → List ℤ
 condition_quotients [] e = []
 condition_quotients (link ∷ links) e = quotients link.condition e ++ condition_quotients links e
 
-pub conditions_length : (links : List Arrow) (e : Environment) (front : List ℤ) (n : ℕ) → length front ≡ n → length (front ++ condition_quotients links e) ≡ after_conditions n links
+pub conditions_length : (links : List Arrow) (e : Environment) (front : List ℤ) (n : ℕ) → length front ≡ n → length (front ++ condition_quotients links e) ≡ past n links
 conditions_length [] e front n l = two front [] n 0 l refl ∙ (omega arith)
 conditions_length (link ∷ links) e front n l =
     ap (λ (zs : List ℤ). length zs) (sym (append_assoc front (quotients link.condition e) (condition_quotients links e)))
@@ -61,22 +61,22 @@ conditions_solved (link ∷ links) e point front rest n h l =
      conditions_solved links e point (front ++ q) rest (n + divisions_in link.condition) (first ∙ sym (append_assoc front q (more ++ rest))) (two front q n (divisions_in link.condition) l (quotients_length link.condition e)))
 
 module _ (limit : ℕ → ℕ) (point : List ℤ) (gs : List Formed) (e : Environment) (r : Represents point gs e) (w : StaysWithin limit e) where
-  conditions_true : (n : ℕ) (links : List Arrow) → AllFormable limit links → not_below_zero point (condition_rows limit gs n links) ≡ true → meet_all point (condition_forms gs n links) ≡ true → AllTaken e links
+  conditions_true : (n : ℕ) (links : List Arrow) → AllFormable limit links → not_below_zero point (rows_from limit gs n links) ≡ true → meet_all point (conditions_from gs n links) ≡ true → AllTaken e links
   conditions_true n [] fm d h = tt
   conditions_true n (link ∷ links) fm d h =
       let k = n + divisions_in link.condition in
-      let p = parts_of point (divisions limit gs n link.condition) (condition_rows limit gs k links) d in
+      let p = parts_of point (divisions limit gs n link.condition) (rows_from limit gs k links) d in
       let q = both {a = meets (condition gs n true link.condition) point} h in
       let s = solves_condition limit point gs e r n link.condition fm.0.condition p.0 in
       (sym (condition_meets limit point gs e r (λ f. (w.fields f).number) n true link.condition fm.0.condition s) ∙ q.0, conditions_true k links fm.1 p.1 q.1)
 
   true_conditions : (n : ℕ) (links : List Arrow) → AllFormable limit links → AllNarrow limit links → AllSolved point n links e → AllTaken e links
-      → (not_below_zero point (condition_rows limit gs n links) ≡ true) × (meet_all point (condition_forms gs n links) ≡ true)
+      → (not_below_zero point (rows_from limit gs n links) ≡ true) × (meet_all point (conditions_from gs n links) ≡ true)
   true_conditions n [] fm nr s t = (refl, refl)
   true_conditions n (link ∷ links) fm nr s t =
       let k = n + divisions_in link.condition in
       let more = true_conditions k links fm.1 nr.1 s.1 t.1 in
-      (of_parts point (divisions limit gs n link.condition) (condition_rows limit gs k links) (rows_of_condition limit point gs e r w n link.condition fm.0.condition nr.0.condition s.0) more.0,
+      (of_parts point (divisions limit gs n link.condition) (rows_from limit gs k links) (rows_of_condition limit point gs e r w n link.condition fm.0.condition nr.0.condition s.0) more.0,
        and_true (condition_meets limit point gs e r (λ f. (w.fields f).number) n true link.condition fm.0.condition s.0 ∙ t.0) more.1)
 
 -- ---- all that is asked
@@ -84,8 +84,8 @@ module _ (limit : ℕ → ℕ) (point : List ℤ) (gs : List Formed) (e : Enviro
 -- the links are taken, the named First and Size have their quotients, and the formula and the rows of the quotients by 8 hold
 pub record Granted (point : List ℤ) (n : ℕ) (e : Environment) (links : List Arrow) (first size : Option Tree) (formula : List Form) (units : List Linear) : Type 0 where
   pub taken : AllTaken e links
-  pub first_solved : SolvesAny point (after_conditions n links) first e
-  pub size_solved : SolvesAny point (after_conditions n links + divisions_in_any first) size e
+  pub first_solved : SolvesAny point (past n links) first e
+  pub size_solved : SolvesAny point (past n links + divisions_in_any first) size e
   pub holds : meet_all point formula ≡ true
   pub bounded : not_below_zero point units ≡ true
 
@@ -97,13 +97,13 @@ module _ (domains : List Domain) (m : Graph) (point : List ℤ) (gs : List Forme
       → Granted point n e links first size formula units
   granted fm nf ns h d =
       let limit = limit_of domains m in
-      let k = after_conditions n links in
+      let k = past n links in
       let first_rows = divisions_any limit gs k first in
       let size_rows = divisions_any limit gs (k + divisions_in_any first) size in
-      let p1 = parts_of point (condition_rows limit gs n links) (first_rows ++ (size_rows ++ units)) d in
+      let p1 = parts_of point (rows_from limit gs n links) (first_rows ++ (size_rows ++ units)) d in
       let p2 = parts_of point first_rows (size_rows ++ units) p1.1 in
       let p3 = parts_of point size_rows units p2.1 in
-      let f = split point (condition_forms gs n links) formula h in
+      let f = split point (conditions_from gs n links) formula h in
       record {
         taken = conditions_true limit point gs e r w n links fm p1.0 f.0;
         first_solved = solves_any limit point gs e r first k nf p2.0;
@@ -118,11 +118,11 @@ module _ (domains : List Domain) (m : Graph) (point : List ℤ) (gs : List Forme
         × (not_below_zero point (QueryOf.asked_of domains m gs n links first size formula units quotients).divisions ≡ true)
   granting fm nr nf rf ns rs s g =
       let limit = limit_of domains m in
-      let k = after_conditions n links in
+      let k = past n links in
       let first_rows = divisions_any limit gs k first in
       let size_rows = divisions_any limit gs (k + divisions_in_any first) size in
       let c = true_conditions limit point gs e r w n links fm nr s g.taken in
-      (join point (condition_forms gs n links) formula c.1 g.holds,
-       of_parts point (condition_rows limit gs n links) (first_rows ++ (size_rows ++ units)) c.0
+      (join point (conditions_from gs n links) formula c.1 g.holds,
+       of_parts point (rows_from limit gs n links) (first_rows ++ (size_rows ++ units)) c.0
          (of_parts point first_rows (size_rows ++ units) (rows_of_any limit point gs e r w first k nf rf g.first_solved)
            (of_parts point size_rows units (rows_of_any limit point gs e r w size (k + divisions_in_any first) ns rs g.size_solved) g.bounded)))

@@ -27,7 +27,8 @@ use Rattle.rx_forms.proofs.Carrying.{carried, solved_in, any_length, links_lengt
 use Rattle.rx_forms.proofs.Extension.{two}
 use Rattle.rx_layout.specs.Types.{type_form}
 use Rattle.rx_layout.specs.QueryOf
-use Rattle.rx_layout.specs.QueryOf.{Asked, after_conditions}
+use Rattle.rx_layout.specs.QueryOf.{Asked}
+use Rattle.rx_forms.specs.Gathered.{past}
 use Rattle.rx_layout.proofs.Lists.{meet_all, meets_all}
 use Rattle.rx_layout.proofs.Domains.{types_have_forms}
 use Rattle.rx_layout.proofs.Satisfied.{query_meets}
@@ -76,7 +77,7 @@ module _ (domains : List Domain) (m : Graph) (el : IsElaborated domains m) (form
     n = QueryOf.division_at domains m path
 
     abbrev pub quotient_variable : ℕ
-    quotient_variable = after_conditions n links + divisions_in_any first + divisions_in_any size
+    quotient_variable = past n links + divisions_in_any first + divisions_in_any size
 
     abbrev pub asked : Asked
     asked = QueryOf.asked_of domains m (Laws.fields_on domains m path) n links first size formula units quotients
@@ -85,7 +86,7 @@ module _ (domains : List Domain) (m : Graph) (el : IsElaborated domains m) (form
     abbrev pub Serves : Type 0
     Serves =
         (point : List ℤ) → get_or point 0 (pos 0) ≡ pos total → Matches point (Laws.fields_on domains m path) fields
-        → SolvesAny point (after_conditions n links) first (in_message total fields) → SolvesAny point (after_conditions n links + divisions_in_any first) size (in_message total fields)
+        → SolvesAny point (past n links) first (in_message total fields) → SolvesAny point (past n links + divisions_in_any first) size (in_message total fields)
         → (front : List ℤ) → point ≡ front ++ qs → length front ≡ quotient_variable
         → (meet_all point formula ≡ true) × (not_below_zero point units ≡ true)
 
@@ -103,7 +104,7 @@ module _ (domains : List Domain) (m : Graph) (el : IsElaborated domains m) (form
         let sq = quotients_any size e in
         let more = cq ++ (fq ++ (sq ++ qs)) in
         let point : List ℤ = pos total ∷ (numbers ++ (along ++ more)) in
-        let k = after_conditions n links in
+        let k = past n links in
         let l0 : length (pos total ∷ numbers) ≡ 1 + count = two (pos total ∷ []) numbers 1 count refl (numbers_length domains m total [] Start path fields end partial.leads) in
         let c = carried domains m point total [] 1 (1 + count) on fields (links_length domains m total [] Start path fields end partial.leads) (pos total ∷ []) (along ++ more) refl refl (pos total ∷ numbers) more refl l0 in
         let rows = lead_rows domains m el formable narrow type_form point (types_have_forms point) total partial.short refl path [] [] [] fields 1 (1 + count) Start end tt refl partial.leads c in

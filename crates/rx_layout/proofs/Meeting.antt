@@ -21,7 +21,8 @@ use Rattle.rx_forms.proofs.Carrying.{links_length, numbers_length}
 use Rattle.rx_layout.specs.declared.goal.Goal.{Goal}
 use Rattle.rx_layout.specs.Goals.{source, IsMet}
 use Rattle.rx_layout.specs.QueryOf
-use Rattle.rx_layout.specs.QueryOf.{Asked, after_conditions}
+use Rattle.rx_layout.specs.QueryOf.{Asked}
+use Rattle.rx_forms.specs.Gathered.{past}
 use Rattle.rx_layout.specs.Laws
 use Rattle.rx_layout.specs.Laws.{IsPoint}
 use Rattle.rx_layout.proofs.Even.{query_variables}
@@ -30,7 +31,7 @@ use Rattle.rx_layout.proofs.Asking.{AllTaken, AllFormable, AllNarrow, Granted, g
 use Rattle.rx_layout.proofs.Ends
 use Rattle.rx_layout.proofs.Ends.{IsPartialAt, partial_at, point_at}
 
-conditions_least : (n : ℕ) (links : List Arrow) → n ≤ after_conditions n links
+conditions_least : (n : ℕ) (links : List Arrow) → n ≤ past n links
 conditions_least n [] = omega arith
 conditions_least n (link ∷ links) = let a = conditions_least (n + divisions_in link.condition) links in omega arith
 
@@ -73,7 +74,7 @@ module _ (domains : List Domain) (m : Graph) (el : IsElaborated domains m) (form
       let counted = numbers_length domains m p.total [] Start path p.fields (source goal) p.partial.leads in
       let least = division_least domains m (1 + Steps.scalars_on domains m on) on in
       let more = conditions_least n links in
-      let long = enough (Carried.numbers_of domains m p.fields) p.total (Steps.scalars_on domains m on) n (after_conditions n links) (divisions_in_any first) (divisions_in_any size) quotients (length point) counted least more whole in
+      let long = enough (Carried.numbers_of domains m p.fields) p.total (Steps.scalars_on domains m on) n (past n links) (divisions_in_any first) (divisions_in_any size) quotients (length point) counted least more whole in
       (p.total, p.fields, record { partial = p.partial; met = met p g },
        cut_of domains m point p.total (1 + Steps.scalars_on domains m on) on p.fields p.length_is (links_length domains m p.total [] Start path p.fields (source goal) p.partial.leads) p.matches long)
     where

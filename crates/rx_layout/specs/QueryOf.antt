@@ -19,8 +19,8 @@ use Rattle.rx_proof.specs.declared.query.Query.{Query}
 use Rattle.rx_forms.specs.declared.linear.Linear.{Linear}
 use Rattle.rx_forms.specs.declared.linear.Form.{Form, AtLeast, All, Any}
 use Rattle.rx_forms.specs.Linear.{constant, term, at_least, above, unequal}
-use Rattle.rx_forms.specs.Normal.{Formed, formed_of, divisions_in, condition}
-use Rattle.rx_forms.specs.Divisions.{divisions}
+use Rattle.rx_forms.specs.Normal.{Formed, formed_of, divisions_in}
+use Rattle.rx_forms.specs.Gathered.{conditions_from, rows_from, past}
 use Rattle.rx_forms.specs.Laws.{fields_on}
 use Rattle.rx_forms.specs.Steps.{Step, type_form_any, place_forms, overlay_form, condition_form, division_forms, first_form, size_form, size_aspect, end_form, divisions_any, divisions_in_any, target_field, steps_of, division_after, scalars_on, links_on}
 use Rattle.rx_layout.specs.declared.goal.Goal.{Goal}
@@ -89,19 +89,6 @@ rest_interval = from_to (neg_ℤ (pos (2 ^ 27))) (pos (2 ^ 27))
 abbrev pub link_numbered : Graph → Node → ℕ → Option Arrow
 link_numbered m node n = slice_get (filter (λ l. is_node node l.source) m.links) (n - 1)
 
--- the conditions of links at the end of a path, one after the other
-abbrev pub condition_forms : List Formed → ℕ → List Arrow → List Form
-condition_forms fields n [] = []
-condition_forms fields n (link ∷ links) = condition fields n true link.condition ∷ condition_forms fields (n + divisions_in link.condition) links
-
-abbrev pub condition_rows : (ℕ → ℕ) → List Formed → ℕ → List Arrow → List Linear
-condition_rows limit fields n [] = []
-condition_rows limit fields n (link ∷ links) = divisions limit fields n link.condition ++ condition_rows limit fields (n + divisions_in link.condition) links
-
-abbrev pub after_conditions : ℕ → List Arrow → ℕ
-after_conditions n [] = n
-after_conditions n (link ∷ links) = after_conditions (n + divisions_in link.condition) links
-
 module _ (domains : List Domain) (m : Graph) where
   -- Types, length, places, overlays and conditions of the path, then what is asked at its end. The divisions stand last.
   abbrev pub path_forms : List Step → List Form → List Linear → List Form
@@ -124,9 +111,9 @@ module _ (domains : List Domain) (m : Graph) where
   -- the named Size, and then come so many quotients by 8.
   abbrev pub asked_of : List Formed → ℕ → List Arrow → Option Tree → Option Tree → List Form → List Linear → ℕ → Asked
   asked_of fields n links first size formula units quotients =
-      let k = after_conditions n links in record {
-        forms = condition_forms fields n links ++ formula;
-        divisions = condition_rows (limit_of domains m) fields n links ++ (divisions_any (limit_of domains m) fields k first ++ (divisions_any (limit_of domains m) fields (k + divisions_in_any first) size ++ units));
+      let k = past n links in record {
+        forms = conditions_from fields n links ++ formula;
+        divisions = rows_from (limit_of domains m) fields n links ++ (divisions_any (limit_of domains m) fields k first ++ (divisions_any (limit_of domains m) fields (k + divisions_in_any first) size ++ units));
         variables = k + divisions_in_any first + divisions_in_any size + quotients;
       }
 
