@@ -1,3 +1,4 @@
+pub mod Fitting
 pub mod Goals
 pub mod Laws
 pub mod Parts
