@@ -10,7 +10,8 @@ use Rattle.rx_proof.proofs.Weights.{has_variables_out, each-append}
 use Rattle.rx_forms.specs.declared.linear.Form.{Form}
 use Rattle.rx_forms.specs.declared.linear.Form.TheOpen.{Form-F}
 use Rattle.rx_forms.specs.declared.linear.Form.TheFolds.{ind-Form, map-Form, fold-roll-Form}
-use Rattle.rx_layout.specs.Parts.{Parts, query_of, all_of, one_of, parts_step, parts_of}
+use Rattle.rx_layout.specs.declared.parts.Parts.{Parts}
+use Rattle.rx_layout.specs.Parts.{query_of, all_of, one_of, parts_step, parts_of}
 
 all-map : (f : Query → ℕ → Bool) (n : ℕ) (branches : List Query) → list_all (λ (b : ℕ → Bool). b n) (map f branches) ≡ list_all (λ b. f b n) branches
 all-map f n [] = refl

@@ -6,6 +6,7 @@ pub mod Domains
 pub mod Ends
 pub mod Even
 pub mod Formulas
+pub mod Gathered
 pub mod Holding
 pub mod Whole
 pub mod Lists

@@ -17,7 +17,8 @@ use Rattle.rx_forms.specs.declared.linear.Form.{Form}
 use Rattle.rx_forms.specs.declared.linear.Form.TheOpen.{Form-F}
 use Rattle.rx_forms.specs.declared.linear.Form.TheFolds.{fold-Form, ind-Form, map-Form, fold-roll-Form}
 use Rattle.rx_forms.specs.Linear.{at, meets, meets_step}
-use Rattle.rx_layout.specs.Parts.{Parts, nothing, padded, row_of, false_row, query_of, all_of, one_of, parts_step, parts_of}
+use Rattle.rx_layout.specs.declared.parts.Parts.{Parts}
+use Rattle.rx_layout.specs.Parts.{nothing, padded, row_of, false_row, query_of, all_of, one_of, parts_step, parts_of}
 
 -- whether the point meets all the parts
 abbrev pub meets_parts : List ℤ → Parts → Bool

@@ -1,5 +1,4 @@
 -- The rows and disjunctions of a fact, over a number of variables.
---   Parts             rows that all hold, and disjunctions of which one branch each holds
 --   row_of, false_row a sum that is at least 0, and 0 >= 1
 --   all_of, one_of    the parts of all of some facts, and of one of them
 --   parts_of          those of a fact
@@ -12,10 +11,7 @@ use Rattle.rx_forms.specs.declared.linear.Linear.{Linear}
 use Rattle.rx_forms.specs.declared.linear.Form.{Form}
 use Rattle.rx_forms.specs.declared.linear.Form.TheOpen.{Form-F}
 use Rattle.rx_forms.specs.declared.linear.Form.TheFolds.{fold-Form}
-
-pub record Parts : Type 0 where
-  pub rows : List Row
-  pub either : List (List Query)
+use Rattle.rx_layout.specs.declared.parts.Parts.{Parts}
 
 abbrev pub nothing : Parts
 nothing = record { rows = []; either = [] }
