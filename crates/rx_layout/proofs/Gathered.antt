@@ -1,10 +1,10 @@
 -- What the parts of a fact are at each kind of fact, and that they fit a system.
-use Rattle.std.proofs.Common.{◌≡◌, refl, sym, ap, subst, ◌∙◌, ℕ, ◌+◌, ◌-◌, ◌<◌, ◌≤◌, ◌^◌, arith, List, [], ◌∷◌, ◌++◌, map, length, replicate, drop, get_or, Bool, true, ◌&&◌, ℤ, pos, neg_ℤ, unsigned_abs}
-use Rattle.std.specs.Prelude.{nat_le, nat_lt}
+use Rattle.std.proofs.Common.{◌≡◌, refl, sym, ap, subst, ◌∙◌, ℕ, zero, suc, ◌+◌, ◌-◌, ◌<◌, ◌≤◌, ◌^◌, arith, List, [], ◌∷◌, ◌++◌, map, length, replicate, drop, get_or, Bool, true, ◌&&◌, ℤ, pos, neg_ℤ, unsigned_abs}
+use Rattle.std.specs.Prelude.{nat_le, nat_lt, Result, Ok, Err, IfOk}
 use Rattle.std.specs.List.{All, list_all}
 use Rattle.std.proofs.lemmas.Int.{ints}
 use Rattle.std.proofs.lemmas.List.{length-append, drop_more}
-use Rattle.std.proofs.lemmas.List.Elements.{All-append, All-nil}
+use Rattle.std.proofs.lemmas.List.Elements.{All-append, All-cons, All-nil}
 use Rattle.rx_linear.specs.declared.row.Row.{Row}
 use Rattle.rx_linear.specs.Rows.{Narrow, AllBelow, all_below}
 use Rattle.rx_linear.specs.Systems.{FitsSystem, IsWithinLimits}
@@ -47,3 +47,94 @@ fits_all n forms = ap (λ (p : Form). fits n p) (sym (rolls-All forms)) ∙ fold
 pub fits_any : (n : ℕ) (forms : List Form) → fits n (Any forms) ≡ list_all (fits n) forms
 unfolding fits
 fits_any n forms = ap (λ (p : Form). fits n p) (sym (rolls-Any forms)) ∙ fold-roll-Form Bool (fits_step n) (Form-F.Any forms) ∙ all-map n forms
+
+-- ---- rows within the limits
+
+abbrev pub Fit : ℕ → Parts → Type 0
+Fit n parts = All (FitsSystem n) parts.rows
+
+below : (a b : ℕ) → nat_lt a b ≡ true → a < b
+below a b e = grind (arith, e)
+
+up_to : (a b : ℕ) → nat_le a b ≡ true → a ≤ b
+up_to a b e = grind (arith, e)
+
+small : (k : ℕ) (zs : List ℤ) → all_below k zs ≡ true → AllBelow k zs
+small k [] h = All-nil (λ z. unsigned_abs z < k)
+small k (z ∷ zs) h = let p = both {a = nat_lt (unsigned_abs z) k} h in All-cons (λ z. unsigned_abs z < k) z zs (below (unsigned_abs z) k p.0) (small k zs p.1)
+
+zeros_small : (k j : ℕ) → 0 < k → AllBelow k (replicate j (pos 0))
+zeros_small k zero p = All-nil (λ z. unsigned_abs z < k)
+zeros_small k (suc j) p = All-cons (λ z. unsigned_abs z < k) (pos 0) (replicate j (pos 0)) p (zeros_small k j p)
+
+zeros_length : (j : ℕ) → length (replicate j (pos 0)) ≡ j
+zeros_length zero = refl
+zeros_length (suc j) = let e = zeros_length j in omega (arith, e)
+
+padded_length : (n : ℕ) (cs : List ℤ) → length cs ≤ n → length (padded n cs) ≡ n
+padded_length n cs h = let e = zeros_length (n - length cs) in length-append cs (replicate (n - length cs) (pos 0)) ∙ (omega (arith, e, h))
+
+negated : (z : ℤ) (k : ℕ) → unsigned_abs z < k → unsigned_abs (neg_ℤ z) < k
+negated z k h = omega (arith, ints, h)
+
+row_fits : (n : ℕ) (f : Linear) → fits_row n f ≡ true → FitsSystem n (row_of n f)
+row_fits n f h =
+    let p = both {a = nat_le (length f.coefficients) n && all_below (2 ^ 20) f.coefficients} h in
+    let q = both {a = nat_le (length f.coefficients) n} p.0 in
+    (padded_length n f.coefficients (up_to (length f.coefficients) n q.0),
+     (All-append (λ z. unsigned_abs z < 2 ^ 20) f.coefficients (replicate (n - length f.coefficients) (pos 0)) (small (2 ^ 20) f.coefficients q.1) (zeros_small (2 ^ 20) (n - length f.coefficients) (omega arith)),
+      negated f.constant (2 ^ 100) (below (unsigned_abs f.constant) (2 ^ 100) p.1)))
+
+false_fits : (n : ℕ) → FitsSystem n (false_row n)
+false_fits n = (zeros_length n, (zeros_small (2 ^ 20) n (omega arith), omega (arith, ints)))
+
+abbrev Fitting : ℕ → Form → Type 0
+Fitting n form = fits n form ≡ true → Fit n (parts_of n form)
+
+all_fit : (n : ℕ) (forms : List ((f : Form) × Fitting n f)) → list_all (λ (b : Bool). b) (map (fits n) (map (λ e. e.0) forms)) ≡ true → Fit n (all_of (map (parts_of n) (map (λ e. e.0) forms)))
+all_fit n [] h = All-nil (FitsSystem n)
+all_fit n (f ∷ fs) h =
+    let p = both {a = fits n f.0} h in
+    All-append (FitsSystem n) (parts_of n f.0).rows (all_of (map (parts_of n) (map (λ e. e.0) fs))).rows (f.1 p.0) (all_fit n fs p.1)
+
+one_fits : (n : ℕ) (forms : List ((f : Form) × Fitting n f)) → list_all (λ (b : Bool). b) (map (fits n) (map (λ e. e.0) forms)) ≡ true → Fit n (one_of n (map (parts_of n) (map (λ e. e.0) forms)))
+one_fits n [] h = All-cons (FitsSystem n) (false_row n) [] (false_fits n) (All-nil (FitsSystem n))
+one_fits n (f ∷ []) h = f.1 (both {a = fits n f.0} h).0
+one_fits n (f ∷ g ∷ fs) h = All-nil (FitsSystem n)
+
+layer_fits : (n : ℕ) (y : Form-F ((f : Form) × Fitting n f)) → fits_step n (map-Form Form Bool (fits n) (map-Form ((f : Form) × Fitting n f) Form (λ e. e.0) y)) ≡ true
+    → Fit n (parts_step n (map-Form Form Parts (parts_of n) (map-Form ((f : Form) × Fitting n f) Form (λ e. e.0) y)))
+layer_fits n (Form-F.AtLeast f) h = All-cons (FitsSystem n) (row_of n f) [] (row_fits n f h) (All-nil (FitsSystem n))
+layer_fits n (Form-F.All forms) h = all_fit n forms h
+layer_fits n (Form-F.Any forms) h = one_fits n forms h
+
+pub parts_fit : (n : ℕ) (form : Form) → Fitting n form
+unfolding parts_of fits
+parts_fit n = ind-Form (Fitting n) (λ x y is h.
+    subst (λ (p : Parts). Fit n p) (sym (fold-roll-Form Parts (parts_step n) x))
+    (subst (λ layer. fits_step n (map-Form Form Bool (fits n) layer) ≡ true → Fit n (parts_step n (map-Form Form Parts (parts_of n) layer))) is (layer_fits n y) (sym (fold-roll-Form Bool (fits_step n) x) ∙ h)))
+
+pub within_limits : (n : ℕ) (form : Form) → n ≤ 192 → fits n form ≡ true → IsWithinLimits n (parts_of n form).rows
+within_limits n form few h = (few, parts_fit n form h)
+
+-- ---- for the code
+
+pub sums_fit : (n : ℕ) (form : Form) (f : Linear) → fits n form ≡ true → form ≡ AtLeast f → fits_row n f ≡ true
+sums_fit n form f h is = sym (ap (λ (x : Form). fits n x) is ∙ fits_at_least n f) ∙ h
+
+pub alls_fit : (n : ℕ) (form : Form) (forms items : List Form) → fits n form ≡ true → form ≡ AllOf forms → items ≡ forms → list_all (fits n) items ≡ true
+alls_fit n form forms items h is e = ap (λ (fs : List Form). list_all (fits n) fs) e ∙ sym (ap (λ (x : Form). fits n x) is ∙ fits_all n forms) ∙ h
+
+pub anys_fit : (n : ℕ) (form : Form) (forms items : List Form) → fits n form ≡ true → form ≡ Any forms → items ≡ forms → list_all (fits n) items ≡ true
+anys_fit n form forms items h is e = ap (λ (fs : List Form). list_all (fits n) fs) e ∙ sym (ap (λ (x : Form). fits n x) is ∙ fits_any n forms) ∙ h
+
+pub item_fits : (n : ℕ) (forms : List Form) (i : ℕ) (form : Form) → i < length forms → form ≡ get_or forms i form → list_all (fits n) (drop i forms) ≡ true → fits n form ≡ true
+item_fits n forms i form l is h =
+    (both {a = fits n form} (sym (ap (λ (fs : List Form). list_all (fits n) fs) (drop_more forms i form l) ∙ ap (λ (f : Form). fits n f && list_all (fits n) (drop (i + 1) forms)) (sym is)) ∙ h)).0
+
+pub parts_within : (n : ℕ) (form : Form) (parts : Parts) → n ≤ 192 → fits n form ≡ true → parts ≡ parts_of n form → IsWithinLimits n parts.rows
+parts_within n form parts few h is = subst (λ (p : Parts). IsWithinLimits n p.rows) (sym is) (within_limits n form few h)
+
+pub if_ok : {X E : Type 0} (r : Result X E) (P Q : X → Type 0) → ((x : X) → P x → Q x) → IfOk r P → IfOk r Q
+if_ok (Ok x) P Q f h = f x h
+if_ok (Err e) P Q f h = tt

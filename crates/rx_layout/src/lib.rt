@@ -8,4 +8,5 @@ mod parts;
 
 pub use fault::NoMemory;
 pub use goal::Goal;
+pub use parts::{Parts, query_of_form};
 pub use laws::{goals_have_points, goals_make_sound, points_meet_goals, queries_are_even};

@@ -93,3 +93,71 @@ fn query_of(variables: usize, parts: Parts) -> Query
         either: parts.either,
     }
 }
+
+/// The rows and disjunctions of a fact, over that many variables.
+#[cycle(parts)]
+fn parts_of(alloc: Global, variables: usize, form: &Form) -> Result<Parts, NoMemory>
+    requires few { variables ≤ 192 }
+    requires fits { fits variables form.now ≡ true }
+    ensures { IfOk result (λ parts. parts ≡ parts_of variables form.now) }
+{
+    match form {
+        Form::AtLeast(sum) => one_row(alloc, row_of(alloc, variables, sum)?),
+        Form::All(forms) => all_of(alloc, variables, forms.as_slice()),
+        Form::Any(forms) => one_of(alloc, variables, forms.as_slice()),
+    }
+}
+
+/// Those of all of some facts.
+#[cycle(parts)]
+fn all_of(alloc: Global, variables: usize, forms: &[Form]) -> Result<Parts, NoMemory>
+    requires few { variables ≤ 192 }
+    requires fits { list_all (fits variables) forms.now ≡ true }
+    ensures { IfOk result (λ parts. parts ≡ all_of (map (parts_of variables) forms.now)) }
+{
+    let mut all = nothing(alloc);
+    for form in forms {
+        let parts = parts_of(alloc, variables, form)?;
+        append(&mut all, parts)?;
+    }
+    Ok(all)
+}
+
+/// Those of one of some facts.
+#[cycle(parts)]
+fn one_of(alloc: Global, variables: usize, forms: &[Form]) -> Result<Parts, NoMemory>
+    requires few { variables ≤ 192 }
+    requires fits { list_all (fits variables) forms.now ≡ true }
+    ensures { IfOk result (λ parts. parts ≡ one_of variables (map (parts_of variables) forms.now)) }
+{
+    match forms {
+        [] => one_row(alloc, false_row(alloc, variables)?),
+        [only] => parts_of(alloc, variables, only),
+        _ => one_choice(alloc, branches(alloc, variables, forms)?),
+    }
+}
+
+/// A query of each fact.
+#[cycle(parts)]
+fn branches(alloc: Global, variables: usize, forms: &[Form]) -> Result<Items<Query>, NoMemory>
+    requires few { variables ≤ 192 }
+    requires fits { list_all (fits variables) forms.now ≡ true }
+    ensures { IfOk result (λ queries. queries ≡ map (query_of variables) (map (parts_of variables) forms.now)) }
+{
+    let mut queries = Vec::new(alloc);
+    for form in forms {
+        let parts = parts_of(alloc, variables, form)?;
+        queries.push(query_of(variables, parts))?;
+    }
+    Ok(Items::from_vec(queries))
+}
+
+/// The query over that many variables whose points are those at which the fact holds.
+pub fn query_of_form(alloc: Global, variables: usize, form: &Form) -> Result<Query, NoMemory>
+    requires few { variables ≤ 192 }
+    requires fits { fits variables form.now ≡ true }
+    ensures { IfOk result (λ query. query ≡ query_of variables (parts_of variables form.now)) }
+{
+    let parts = parts_of(alloc, variables, form)?;
+    Ok(query_of(variables, parts))
+}
