@@ -9,6 +9,7 @@ pub mod Formulas
 pub mod Gathered
 pub mod Holding
 pub mod Whole
+pub mod Listing
 pub mod Lists
 pub mod Meeting
 pub mod Numbered

@@ -16,13 +16,13 @@ same_node (At f) = (Decides-eqb f f).1 refl
 same_node Null = refl
 
 module _ (node : Node) where
-  abbrev leaves : Arrow → Bool
+  abbrev pub leaves : Arrow → Bool
   leaves l = is_node node l.source
 
-  abbrev counted : ℕ → List Arrow → ℕ
+  abbrev pub counted : ℕ → List Arrow → ℕ
   counted k ls = fold (λ a x. a + cond (leaves x) 1 0) k ls
 
-  counted_from : (k : ℕ) (ls : List Arrow) → counted k ls ≡ k + counted 0 ls
+  pub counted_from : (k : ℕ) (ls : List Arrow) → counted k ls ≡ k + counted 0 ls
   counted_from k [] = omega arith
   counted_from k (l ∷ ls) =
       let a = counted_from (k + cond (leaves l) 1 0) ls in

@@ -1,4 +1,4 @@
-use Rattle.std.proofs.Common.{rules, ◌≡◌, ◌∷◌, [], sym, ap, ◌∙◌, List, map}
+use Rattle.std.proofs.Common.{rules, arith, ◌≡◌, ◌∷◌, [], sym, ap, ◌∙◌, List, map}
 use Rattle.rx_linear.specs.declared.row.Row.{Row}
 use Rattle.rx_forms.specs.declared.linear.Form.{Form}
 use Rattle.rx_layout.specs.declared.parts.Parts.{Parts}
@@ -16,11 +16,11 @@ parts_of-row_of-requires t c = record { fits = sums_fit c.args.variables c.args.
 
 pub parts_of-all_of-requires : goal.parts_of-all_of-requires
 parts_of-all_of-requires t c =
-    (search rules, (c.requires.few, alls_fit c.args.variables c.args.form.now c.in-All.forms c.as_slice.result.now c.requires.fits c.in-All.is c.as_slice.ensures))
+    (first_of (search rules depth 8, grind (arith, rules), search rules depth 12), (c.requires.few, alls_fit c.args.variables c.args.form.now c.in-All.forms c.as_slice.result.now c.requires.fits c.in-All.is c.as_slice.ensures))
 
 pub parts_of-one_of-requires : goal.parts_of-one_of-requires
 parts_of-one_of-requires t c =
-    (search rules, (c.requires.few, anys_fit c.args.variables c.args.form.now c.in-Any.forms c.as_slice-in-Any.result.now c.requires.fits c.in-Any.is c.as_slice-in-Any.ensures))
+    (first_of (search rules depth 8, grind (arith, rules), search rules depth 12), (c.requires.few, anys_fit c.args.variables c.args.form.now c.in-Any.forms c.as_slice-in-Any.result.now c.requires.fits c.in-Any.is c.as_slice-in-Any.ensures))
 
 pub parts_of-returns-in_ok-row_of-in-AtLeast : goal.parts_of-returns-in_ok-row_of-in-AtLeast
 parts_of-returns-in_ok-row_of-in-AtLeast t c =
