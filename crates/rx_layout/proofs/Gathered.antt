@@ -13,7 +13,7 @@ use Rattle.rx_forms.specs.declared.linear.Linear.{Linear}
 use Rattle.rx_forms.specs.declared.linear.Form.{Form, AtLeast, All as AllOf, Any}
 use Rattle.rx_forms.specs.declared.linear.Form.TheVariants.{rolls-AtLeast, rolls-All, rolls-Any}
 use Rattle.rx_forms.specs.declared.linear.Form.TheOpen.{Form-F}
-use Rattle.rx_forms.specs.declared.linear.Form.TheFolds.{ind-Form, map-Form, fold-roll-Form}
+use Rattle.rx_forms.specs.declared.linear.Form.TheFolds.{fold-Form, ind-Form, map-Form, fold-roll-Form}
 use Rattle.rx_layout.specs.declared.parts.Parts.{Parts}
 use Rattle.rx_layout.specs.Parts.{padded, row_of, false_row, query_of, all_of, one_of, parts_step, parts_of}
 use Rattle.rx_layout.specs.Fitting.{fits_row, fits_step, fits}
@@ -138,3 +138,30 @@ parts_within n form parts few h is = subst (λ (p : Parts). IsWithinLimits n p.r
 pub if_ok : {X E : Type 0} (r : Result X E) (P Q : X → Type 0) → ((x : X) → P x → Q x) → IfOk r P → IfOk r Q
 if_ok (Ok x) P Q f h = f x h
 if_ok (Err e) P Q f h = tt
+
+-- ---- how many facts there are in a fact
+
+abbrev pub total : List ℕ → ℕ
+total [] = 0
+total (n ∷ ns) = n + total ns
+
+abbrev count_step : Form-F ℕ → ℕ
+count_step (Form-F.AtLeast f) = 1
+count_step (Form-F.All parts) = 1 + total parts
+count_step (Form-F.Any parts) = 1 + total parts
+
+pub count : Form → ℕ
+count = fold-Form ℕ count_step
+
+pub count_all : (forms : List Form) → count (AllOf forms) ≡ 1 + total (map count forms)
+unfolding count
+count_all forms = ap (λ (p : Form). count p) (sym (rolls-All forms)) ∙ fold-roll-Form ℕ count_step (Form-F.All forms)
+
+pub count_any : (forms : List Form) → count (Any forms) ≡ 1 + total (map count forms)
+unfolding count
+count_any forms = ap (λ (p : Form). count p) (sym (rolls-Any forms)) ∙ fold-roll-Form ℕ count_step (Form-F.Any forms)
+
+pub item_counts : (forms : List Form) (i : ℕ) (form : Form) → i < length forms → form ≡ get_or forms i form → count form ≤ total (map count forms)
+item_counts [] i form l is = absurd (omega (arith, l))
+item_counts (f ∷ fs) zero form l is = let e = ap (λ (x : Form). count x) is in omega (arith, e)
+item_counts (f ∷ fs) (suc i) form l is = let r = item_counts fs i form (omega (arith, l)) is in omega (arith, r)

@@ -1,9 +1,9 @@
-use Rattle.std.proofs.Common.{rules, arith, ◌≡◌, ◌∷◌, [], sym, ap, ◌∙◌, List, map}
+use Rattle.std.proofs.Common.{arith, ◌≡◌, ◌∷◌, [], sym, ap, ◌∙◌, List, map}
 use Rattle.rx_linear.specs.declared.row.Row.{Row}
 use Rattle.rx_forms.specs.declared.linear.Form.{Form}
 use Rattle.rx_layout.specs.declared.parts.Parts.{Parts}
 use Rattle.rx_layout.specs.Parts.{row_of, parts_of, all_of, one_of}
-use Rattle.rx_layout.proofs.Gathered.{parts_at_least, parts_all, parts_any, sums_fit, alls_fit, anys_fit, item_fits, parts_within, if_ok}
+use Rattle.rx_layout.proofs.Gathered.{parts_at_least, parts_all, parts_any, sums_fit, alls_fit, anys_fit, item_fits, parts_within, if_ok, count, total, count_all, count_any, item_counts}
 use Rattle.rx_layout.proofs.parts.+parts.Goals as goal
 
 pub branches-query_of-requires : goal.branches-query_of-requires
@@ -16,11 +16,25 @@ parts_of-row_of-requires t c = record { fits = sums_fit c.args.variables c.args.
 
 pub parts_of-all_of-requires : goal.parts_of-all_of-requires
 parts_of-all_of-requires t c =
-    (first_of (search rules depth 8, grind (arith, rules), search rules depth 12), (c.requires.few, alls_fit c.args.variables c.args.form.now c.in-All.forms c.as_slice.result.now c.requires.fits c.in-All.is c.as_slice.ensures))
+    let n = ap (λ (f : Form). count f) c.in-All.is ∙ count_all c.in-All.forms in
+    let items = ap (λ (fs : List Form). total (map count fs)) c.as_slice.ensures in
+    (omega (arith, c.decreases, n, items), (c.requires.few, alls_fit c.args.variables c.args.form.now c.in-All.forms c.as_slice.result.now c.requires.fits c.in-All.is c.as_slice.ensures))
 
 pub parts_of-one_of-requires : goal.parts_of-one_of-requires
 parts_of-one_of-requires t c =
-    (first_of (search rules depth 8, grind (arith, rules), search rules depth 12), (c.requires.few, anys_fit c.args.variables c.args.form.now c.in-Any.forms c.as_slice-in-Any.result.now c.requires.fits c.in-Any.is c.as_slice-in-Any.ensures))
+    let n = ap (λ (f : Form). count f) c.in-Any.is ∙ count_any c.in-Any.forms in
+    let items = ap (λ (fs : List Form). total (map count fs)) c.as_slice-in-Any.ensures in
+    (omega (arith, c.decreases, n, items), (c.requires.few, anys_fit c.args.variables c.args.form.now c.in-Any.forms c.as_slice-in-Any.result.now c.requires.fits c.in-Any.is c.as_slice-in-Any.ensures))
+
+pub all_of-parts_of-requires : goal.all_of-parts_of-requires
+all_of-parts_of-requires t c =
+    let less = item_counts c.args.forms.now c.loop-form.form-index c.form-item.result c.loop-form-test.true c.form-item.is in
+    (omega (arith, c.decreases, less), (c.requires.few, item_fits c.args.variables c.args.forms.now c.loop-form.form-index c.form-item.result c.loop-form-test.true c.form-item.is c.loop-form.invariant.fits))
+
+pub branches-parts_of-requires : goal.branches-parts_of-requires
+branches-parts_of-requires t c =
+    let less = item_counts c.args.forms.now c.loop-form.form-index c.form-item.result c.loop-form-test.true c.form-item.is in
+    (omega (arith, c.decreases, less), (c.requires.few, item_fits c.args.variables c.args.forms.now c.loop-form.form-index c.form-item.result c.loop-form-test.true c.form-item.is c.loop-form.invariant.fits))
 
 pub parts_of-returns-in_ok-row_of-in-AtLeast : goal.parts_of-returns-in_ok-row_of-in-AtLeast
 parts_of-returns-in_ok-row_of-in-AtLeast t c =
