@@ -44,14 +44,16 @@ module _ (domains : List Domain) (m : Graph) (point : List ℤ) where
       let p1 = both {a = meets (rows (place_forms (type_of domains m s.field) s)) point} p in
       let o1 = both {a = meets (Steps.overlay_form domains m s) point} o in
       let c1 = both {a = meets (condition_form s) point} c in
-      let d1 = both {a = meets (rows (division_forms (limit_of domains m) (type_of domains m s.field) s)) point} d in
-      (record {
-         divided = sym (meets_rows point (division_forms (limit_of domains m) (type_of domains m s.field) s)) ∙ d1.0;
-         taken = c1.0;
-         placed = sym (meets_rows point (place_forms (type_of domains m s.field) s)) ∙ p1.0;
-         typed = t1.0;
-         overlaid = o1.0;
-       }, all_hold steps t1.1 p1.1 o1.1 c1.1 d1.1)
+      let d1 = both {a = meets (rows (division_forms (limit_of domains m) (type_of domains m s.field) s)) point} d in (
+        record {
+          divided = sym (meets_rows point (division_forms (limit_of domains m) (type_of domains m s.field) s)) ∙ d1.0;
+          taken = c1.0;
+          placed = sym (meets_rows point (place_forms (type_of domains m s.field) s)) ∙ p1.0;
+          typed = t1.0;
+          overlaid = o1.0;
+        },
+        all_hold steps t1.1 p1.1 o1.1 c1.1 d1.1,
+      )
 
   pub path_points : (steps : List Step) (asked : List Form) (divided : List Linear) → meet_all point (QueryOf.path_forms domains m steps asked divided) ≡ true
       → ((n : ℕ) × (get_or point 0 (pos 0) ≡ pos n) × (n < 2 ^ 24)) × AllByRecursion Holds steps × (meet_all point asked ≡ true) × (not_below_zero point divided ≡ true)
@@ -73,18 +75,19 @@ module _ (domains : List Domain) (m : Graph) (point : List ℤ) where
 
   hold_all : (steps : List Step) → AllByRecursion Holds steps
       → (meet_all point (map (λ s. type_form_any type_form (type_of domains m s.field) s) steps) ≡ true)
-        × (meet_all point (map (λ s. rows (place_forms (type_of domains m s.field) s)) steps) ≡ true)
-        × (meet_all point (map (λ s. Steps.overlay_form domains m s) steps) ≡ true)
-        × (meet_all point (map condition_form steps) ≡ true)
-        × (meet_all point (map (λ s. rows (division_forms (limit_of domains m) (type_of domains m s.field) s)) steps) ≡ true)
+      × (meet_all point (map (λ s. rows (place_forms (type_of domains m s.field) s)) steps) ≡ true)
+      × (meet_all point (map (λ s. Steps.overlay_form domains m s) steps) ≡ true)
+      × (meet_all point (map condition_form steps) ≡ true)
+      × (meet_all point (map (λ s. rows (division_forms (limit_of domains m) (type_of domains m s.field) s)) steps) ≡ true)
   hold_all [] h = (refl, refl, refl, refl, refl)
   hold_all (s ∷ steps) h =
-      let r = hold_all steps h.1 in
-      (and_true h.0.typed r.0,
-       and_true (meets_rows point (place_forms (type_of domains m s.field) s) ∙ h.0.placed) r.1,
-       and_true h.0.overlaid r.2,
-       and_true h.0.taken r.3,
-       and_true (meets_rows point (division_forms (limit_of domains m) (type_of domains m s.field) s) ∙ h.0.divided) r.4)
+      let r = hold_all steps h.1 in (
+        and_true h.0.typed r.0,
+        and_true (meets_rows point (place_forms (type_of domains m s.field) s) ∙ h.0.placed) r.1,
+        and_true h.0.overlaid r.2,
+        and_true h.0.taken r.3,
+        and_true (meets_rows point (division_forms (limit_of domains m) (type_of domains m s.field) s) ∙ h.0.divided) r.4,
+      )
 
   pub points_path : (steps : List Step) (asked : List Form) (divided : List Linear) (n : ℕ) → get_or point 0 (pos 0) ≡ pos n → n < 2 ^ 24 → AllByRecursion Holds steps → meet_all point asked ≡ true → not_below_zero point divided ≡ true
       → meet_all point (QueryOf.path_forms domains m steps asked divided) ≡ true
@@ -97,9 +100,9 @@ module _ (domains : List Domain) (m : Graph) (point : List ℤ) where
       let last = rows divided ∷ [] in
       let a = hold_all steps h in
       join point types (length_form ∷ (places ++ (overlays ++ (conditions ++ (asked ++ (quotients ++ last)))))) a.0
-        (and_true (length_back point n e short)
-          (join point places (overlays ++ (conditions ++ (asked ++ (quotients ++ last)))) a.1
-            (join point overlays (conditions ++ (asked ++ (quotients ++ last))) a.2
-              (join point conditions (asked ++ (quotients ++ last)) a.3
-                (join point asked (quotients ++ last) g
-                  (join point quotients last a.4 (and_true (meets_rows point divided ∙ d) refl)))))))
+      (and_true (length_back point n e short)
+      (join point places (overlays ++ (conditions ++ (asked ++ (quotients ++ last)))) a.1
+      (join point overlays (conditions ++ (asked ++ (quotients ++ last))) a.2
+      (join point conditions (asked ++ (quotients ++ last)) a.3
+      (join point asked (quotients ++ last) g
+      (join point quotients last a.4 (and_true (meets_rows point divided ∙ d) refl)))))))

@@ -56,9 +56,10 @@ conditions_solved [] e point front rest n h l = tt
 conditions_solved (link ∷ links) e point front rest n h l =
     let q = quotients link.condition e in
     let more = condition_quotients links e in
-    let first : point ≡ front ++ (q ++ (more ++ rest)) = h ∙ ap (λ (zs : List ℤ). front ++ zs) (append_assoc q more rest) in
-    (solved_in link.condition e point front (more ++ rest) n first l,
-     conditions_solved links e point (front ++ q) rest (n + divisions_in link.condition) (first ∙ sym (append_assoc front q (more ++ rest))) (two front q n (divisions_in link.condition) l (quotients_length link.condition e)))
+    let first : point ≡ front ++ (q ++ (more ++ rest)) = h ∙ ap (λ (zs : List ℤ). front ++ zs) (append_assoc q more rest) in (
+      solved_in link.condition e point front (more ++ rest) n first l,
+      conditions_solved links e point (front ++ q) rest (n + divisions_in link.condition) (first ∙ sym (append_assoc front q (more ++ rest))) (two front q n (divisions_in link.condition) l (quotients_length link.condition e)),
+    )
 
 module _ (limit : ℕ → ℕ) (point : List ℤ) (gs : List Formed) (e : Environment) (r : Represents point gs e) (w : StaysWithin limit e) where
   conditions_true : (n : ℕ) (links : List Arrow) → AllFormable limit links → not_below_zero point (rows_from limit gs n links) ≡ true → meet_all point (conditions_from gs n links) ≡ true → AllTaken e links
@@ -75,9 +76,10 @@ module _ (limit : ℕ → ℕ) (point : List ℤ) (gs : List Formed) (e : Enviro
   true_conditions n [] fm nr s t = (refl, refl)
   true_conditions n (link ∷ links) fm nr s t =
       let k = n + divisions_in link.condition in
-      let more = true_conditions k links fm.1 nr.1 s.1 t.1 in
-      (of_parts point (divisions limit gs n link.condition) (rows_from limit gs k links) (rows_of_condition limit point gs e r w n link.condition fm.0.condition nr.0.condition s.0) more.0,
-       and_true (condition_meets limit point gs e r (λ f. (w.fields f).number) n true link.condition fm.0.condition s.0 ∙ t.0) more.1)
+      let more = true_conditions k links fm.1 nr.1 s.1 t.1 in (
+        of_parts point (divisions limit gs n link.condition) (rows_from limit gs k links) (rows_of_condition limit point gs e r w n link.condition fm.0.condition nr.0.condition s.0) more.0,
+        and_true (condition_meets limit point gs e r (λ f. (w.fields f).number) n true link.condition fm.0.condition s.0 ∙ t.0) more.1,
+      )
 
 -- ---- all that is asked
 
@@ -115,14 +117,15 @@ module _ (domains : List Domain) (m : Graph) (point : List ℤ) (gs : List Forme
   pub granting : AllFormable (limit_of domains m) links → AllNarrow (limit_of domains m) links → IsNumericIfAny first → IsNarrowIfAny (limit_of domains m) first → IsNumericIfAny size → IsNarrowIfAny (limit_of domains m) size
       → AllSolved point n links e → Granted point n e links first size formula units
       → (meet_all point (QueryOf.asked_of domains m gs n links first size formula units quotients).forms ≡ true)
-        × (not_below_zero point (QueryOf.asked_of domains m gs n links first size formula units quotients).divisions ≡ true)
+      × (not_below_zero point (QueryOf.asked_of domains m gs n links first size formula units quotients).divisions ≡ true)
   granting fm nr nf rf ns rs s g =
       let limit = limit_of domains m in
       let k = past n links in
       let first_rows = divisions_any limit gs k first in
       let size_rows = divisions_any limit gs (k + divisions_in_any first) size in
-      let c = true_conditions limit point gs e r w n links fm nr s g.taken in
-      (join point (conditions_from gs n links) formula c.1 g.holds,
-       of_parts point (rows_from limit gs n links) (first_rows ++ (size_rows ++ units)) c.0
-         (of_parts point first_rows (size_rows ++ units) (rows_of_any limit point gs e r w first k nf rf g.first_solved)
-           (of_parts point size_rows units (rows_of_any limit point gs e r w size (k + divisions_in_any first) ns rs g.size_solved) g.bounded)))
+      let c = true_conditions limit point gs e r w n links fm nr s g.taken in (
+        join point (conditions_from gs n links) formula c.1 g.holds,
+        of_parts point (rows_from limit gs n links) (first_rows ++ (size_rows ++ units)) c.0
+            (of_parts point first_rows (size_rows ++ units) (rows_of_any limit point gs e r w first k nf rf g.first_solved)
+            (of_parts point size_rows units (rows_of_any limit point gs e r w size (k + divisions_in_any first) ns rs g.size_solved) g.bounded)),
+      )

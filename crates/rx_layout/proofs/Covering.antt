@@ -60,11 +60,11 @@ module _ (domains : List Domain) (m : Graph) (el : IsElaborated domains m) (form
       let n = QueryOf.division_at domains m path in
       found domains m el formable narrow (Cover node a) path point (link ∷ []) link.first None (cover_on path link ∷ []) [] 0 lt (asked_over node a i link f None path num is over) (fm, tt) fm.first tt at
       (λ p g.
-        let e = in_message p.total p.fields in
-        let r = represents point p.total gs p.fields p.length_is p.matches in
-        let fv = first_value (limit_of domains m) point gs p.fields p.total r p.matches link n fm.first g.first_solved in
-        let w = only_above p.total p.fields (ends_within domains m p.total [] Start path p.fields node p.partial.leads) in
-        (i, link, num, (g.taken.0, inl (f, is, over, cover_is point gs p.fields (first_form (QueryOf.goal_step domains m gs n link)) (first_of link e) p.matches w fv (one_holds (cover_on path link) point g.holds)))))
+      let e = in_message p.total p.fields in
+      let r = represents point p.total gs p.fields p.length_is p.matches in
+      let fv = first_value (limit_of domains m) point gs p.fields p.total r p.matches link n fm.first g.first_solved in
+      let w = only_above p.total p.fields (ends_within domains m p.total [] Start path p.fields node p.partial.leads) in
+      (i, link, num, (g.taken.0, inl (f, is, over, cover_is point gs p.fields (first_form (QueryOf.goal_step domains m gs n link)) (first_of link e) p.matches w fv (one_holds (cover_on path link) point g.holds)))))
   cover_meets_at node a i link f (Some x) path point num is over lt at =
       let fm = formable i link num.is in
       found domains m el formable narrow (Cover node a) path point (link ∷ []) None None (Any [] ∷ []) [] 0 lt (asked_over node a i link f (Some x) path num is over) (fm, tt) tt tt at
@@ -96,9 +96,9 @@ module _ (domains : List Domain) (m : Graph) (el : IsElaborated domains m) (form
       placed domains m el formable narrow (Cover node a) total path fields partial (link ∷ []) link.first None (cover_on path link ∷ []) [] 0 [] (asked_over node a i link h.0 None path num h.1 h.2)
       (fm, tt) (nr, tt) fm.first nr.first tt tt (taken, tt) refl
       (λ point t match fs ss front is l.
-        let r = represents point total gs fields t match in
-        let fv = first_value (limit_of domains m) point gs fields total r match link n fm.first fs in
-        (holds_one (cover_on path link) point (is_uncovered point gs fields (first_form (QueryOf.goal_step domains m gs n link)) (first_of link e) match w fv h.3), refl))
+      let r = represents point total gs fields t match in
+      let fv = first_value (limit_of domains m) point gs fields total r match link n fm.first fs in
+      (holds_one (cover_on path link) point (is_uncovered point gs fields (first_form (QueryOf.goal_step domains m gs n link)) (first_of link e) match w fv h.3), refl))
   cover_point_by node a total path fields partial i link num taken (inr h) =
       let fm = formable i link num.is in
       let nr = narrow i link num.is in
@@ -143,9 +143,10 @@ module _ (domains : List Domain) (m : Graph) (el : IsElaborated domains m) (form
       placed domains m el formable narrow (Whole node a) total path fields h.partial (link ∷ []) None None (whole_on path link ∷ []) (unit_rows q places_in_bits) 1 (int_div_euclid x (pos 8) ∷ []) (whole_asked node a i link path h.met.2)
       (formable i link h.met.2.is, tt) (narrow i link h.met.2.is, tt) tt tt tt tt (h.met.3.0, tt) refl
       (λ point t match fs ss front is l.
-        let k : get_or point q (pos 0) ≡ int_div_euclid x (pos 8) = ap (λ (zs : List ℤ). get_or zs q (pos 0)) is ∙ at_end front [] (int_div_euclid x (pos 8)) q (l ∙ no_more q) in
-        (holds_one (whole_on path link) point (is_broken point (end_form gs) q x (end_matches point gs fields match) k h.met.3.1.1),
-         quotient_units point q places_in_bits x k (first_within domains m el formable narrow total path fields node h.partial)))
+      let k : get_or point q (pos 0) ≡ int_div_euclid x (pos 8) = ap (λ (zs : List ℤ). get_or zs q (pos 0)) is ∙ at_end front [] (int_div_euclid x (pos 8)) q (l ∙ no_more q) in (
+        holds_one (whole_on path link) point (is_broken point (end_form gs) q x (end_matches point gs fields match) k h.met.3.1.1),
+        quotient_units point q places_in_bits x k (first_within domains m el formable narrow total path fields node h.partial),
+      ))
     where
       no_more : (n : ℕ) → n + 0 + 0 ≡ n
       no_more n = omega arith

@@ -53,9 +53,10 @@ module _ (domains : List Domain) (m : Graph) (point : List ℤ) where
       let more = formed_more (before ++ g ∷ []) next (Steps.next_division domains m step) links in
       let same : length (before ++ g ∷ []) ≡ length (befores ++ p ∷ []) = length-append before (g ∷ []) ∙ ap (λ (n : ℕ). n + 1) lb ∙ sym (length-append befores (p ∷ [])) in
       let all = split_matches (before ++ g ∷ []) more.0 (befores ++ p ∷ []) fields same (subst (λ gs. Matches point gs ((befores ++ p ∷ []) ++ fields)) more.1 on) in
-      let one = (split_matches before (g ∷ []) befores (p ∷ []) lb all.0).1 in
-      ((λ t e. number_at (type_of domains m step.field) t step p.number (ap (λ (f : ℕ). type_of domains m f) one.0 ∙ e) one.1.number),
-       subst (λ f. NumbersAt (scalar + scalars_in (type_of domains m f)) fields) one.0 (numbers_at (before ++ g ∷ []) (befores ++ p ∷ []) next (Steps.next_division domains m step) links fields same (omega arith) on))
+      let one = (split_matches before (g ∷ []) befores (p ∷ []) lb all.0).1 in (
+        (λ t e. number_at (type_of domains m step.field) t step p.number (ap (λ (f : ℕ). type_of domains m f) one.0 ∙ e) one.1.number),
+        subst (λ f. NumbersAt (scalar + scalars_in (type_of domains m f)) fields) one.0 (numbers_at (before ++ g ∷ []) (befores ++ p ∷ []) next (Steps.next_division domains m step) links fields same (omega arith) on),
+      )
 
   -- the rest of the point begins with the numbers
   cut_one : (type : Option Domain) (n scalar : ℕ) (more front xs : List ℤ) → point ≡ front ++ xs → length front ≡ scalar → ((t : Domain) → type ≡ Some t → get_or point scalar (pos 0) ≡ pos n)

@@ -115,7 +115,7 @@ is_more : (n k : ℕ) → (n == k) ≡ false → nat_lt n k ≡ false → k < n
 is_more n k e f = grind (arith, e, f)
 
 -- n before the others, in their place, or behind the first
-placed_by : (n k : ℕ) (ks : List ℕ) (P : List ℕ → Type 0) → (n ≡ k → P (k ∷ ks)) → (n < k → P (n ∷ k ∷ ks)) → (k < n → P (k ∷ placed_in n ks)) → P (placed_in n (k ∷ ks))
+pub placed_by : (n k : ℕ) (ks : List ℕ) (P : List ℕ → Type 0) → (n ≡ k → P (k ∷ ks)) → (n < k → P (n ∷ k ∷ ks)) → (k < n → P (k ∷ placed_in n ks)) → P (placed_in n (k ∷ ks))
 placed_by n k ks P f g h =
     chosen (n == k) (nat_lt n k) P (k ∷ ks) (n ∷ k ∷ ks) (k ∷ placed_in n ks) (λ e. f ((Decides-eqb n k).0 e)) (λ e. g (is_less n k e)) (λ e l. h (is_more n k e l))
 

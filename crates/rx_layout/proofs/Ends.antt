@@ -123,8 +123,11 @@ module _ (domains : List Domain) (m : Graph) (el : IsElaborated domains m) (form
         let r = represents point total gs fields refl rows.1 in
         let h = serves point refl rows.1 fs ss (((front ++ cq) ++ fq) ++ sq) p3 n3 in
         let g = granting domains m point gs e r w n links first size formula units quotients fm nr nf rf ns rs (conditions_solved links e point front (fq ++ (sq ++ qs)) n p0 n0)
-            (record { taken = taken; first_solved = fs; size_solved = ss; holds = h.0; bounded = h.1 }) in
+        (record { taken = taken; first_solved = fs; size_solved = ss; holds = h.0; bounded = h.1 }) in
         let forms = QueryOf.path_forms domains m (Steps.steps_of domains m path) asked.forms asked.divisions in
-        let all = points_path domains m point (Steps.steps_of domains m path) asked.forms asked.divisions total refl partial.short rows.0 g.0 g.1 in
-        (point, ap (λ (zs : List ℤ). length zs) p3 ∙ two (((front ++ cq) ++ fq) ++ sq) qs quotient_variable quotients n3 lq,
-         query_meets asked.variables (All forms) point ∙ meets_all forms point ∙ all, take-append_seam (pos total ∷ numbers) (along ++ more))
+        let all = points_path domains m point (Steps.steps_of domains m path) asked.forms asked.divisions total refl partial.short rows.0 g.0 g.1 in (
+          point,
+          ap (λ (zs : List ℤ). length zs) p3 ∙ two (((front ++ cq) ++ fq) ++ sq) qs quotient_variable quotients n3 lq,
+          query_meets asked.variables (All forms) point ∙ meets_all forms point ∙ all,
+          take-append_seam (pos total ∷ numbers) (along ++ more),
+        )

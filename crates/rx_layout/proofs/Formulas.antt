@@ -67,28 +67,28 @@ module _ (point : List ℤ) where
   pub position_is : (f g : Linear) (x y : ℤ) → at f point ≡ x → at g point ≡ y → meets (position_formula f g) point ≡ true → (x <ℤ pos 0) ⊎ (y <ℤ pos 0)
   position_is f g x y p q h =
       either_way (first_or_second (above (constant (pos 0)) f) (above (constant (pos 0)) g) h)
-        (λ t. above_is (constant (pos 0)) f (pos 0) x (at_constant (pos 0) point) p t)
-        (λ t. above_is (constant (pos 0)) g (pos 0) y (at_constant (pos 0) point) q t)
+      (λ t. above_is (constant (pos 0)) f (pos 0) x (at_constant (pos 0) point) p t)
+      (λ t. above_is (constant (pos 0)) g (pos 0) y (at_constant (pos 0) point) q t)
 
   pub is_position : (f g : Linear) (x y : ℤ) → at f point ≡ x → at g point ≡ y → (x <ℤ pos 0) ⊎ (y <ℤ pos 0) → meets (position_formula f g) point ≡ true
   is_position f g x y p q h =
       by_either h
-        (λ t. first_meets (above (constant (pos 0)) f) (above (constant (pos 0)) g) (is_above (constant (pos 0)) f (pos 0) x (at_constant (pos 0) point) p t))
-        (λ t. second_meets (above (constant (pos 0)) f) (above (constant (pos 0)) g) (is_above (constant (pos 0)) g (pos 0) y (at_constant (pos 0) point) q t))
+      (λ t. first_meets (above (constant (pos 0)) f) (above (constant (pos 0)) g) (is_above (constant (pos 0)) f (pos 0) x (at_constant (pos 0) point) p t))
+      (λ t. second_meets (above (constant (pos 0)) f) (above (constant (pos 0)) g) (is_above (constant (pos 0)) g (pos 0) y (at_constant (pos 0) point) q t))
 
   -- ---- Overlay
 
   pub unequal_is : (f g : Linear) (x y : ℤ) → at f point ≡ x → at g point ≡ y → meets (unequal f g) point ≡ true → x ≡ y → ⊥
   unequal_is f g x y p q h e =
       by_either (first_or_second (above g f) (above f g) h)
-        (λ t. let l = above_is g f y x q p t in absurd (omega (arith, ints)))
-        (λ t. let l = above_is f g x y p q t in absurd (omega (arith, ints)))
+      (λ t. let l = above_is g f y x q p t in absurd (omega (arith, ints)))
+      (λ t. let l = above_is f g x y p q t in absurd (omega (arith, ints)))
 
   pub is_unequal : (f g : Linear) (x y : ℤ) → at f point ≡ x → at g point ≡ y → (x ≡ y → ⊥) → meets (unequal f g) point ≡ true
   is_unequal f g x y p q h =
       by_lt_z x y
-        (λ l. first_meets (above g f) (above f g) (is_above g f y x q p l))
-        (λ l. second_meets (above g f) (above f g) (is_above f g x y p q (strictly x y l h)))
+      (λ l. first_meets (above g f) (above f g) (is_above g f y x q p l))
+      (λ l. second_meets (above g f) (above f g) (is_above f g x y p q (strictly x y l h)))
     where
       strictly : (x y : ℤ) → y ≤ℤ x → (x ≡ y → ⊥) → y <ℤ x
       strictly x y l n = by_lt_z y x (λ s. s) (λ s. absurd (n (omega (arith, ints, l, s))))
@@ -119,7 +119,7 @@ module _ (point : List ℤ) where
       let b1 = b.1 in
       meets_all (at_least form low ∷ at_least high form ∷ []) point
       ∙ and_true (is_at_least form low x _ p (el ∙ ap (λ (z : ℤ). pos 8 *ℤ z +ℤ pos 1) k) d)
-        (and_true (is_at_least high form _ x (eh ∙ ap (λ (z : ℤ). pos 8 *ℤ z +ℤ pos 7) k) p (omega (arith, ints, b1))) refl)
+      (and_true (is_at_least high form _ x (eh ∙ ap (λ (z : ℤ). pos 8 *ℤ z +ℤ pos 7) k) p (omega (arith, ints, b1))) refl)
     where
       strict : (d x : ℤ) → (pos 8 *ℤ d) ≤ℤ x → (x ≡ d *ℤ pos 8 → ⊥) → (pos 8 *ℤ d +ℤ pos 1) ≤ℤ x
       strict d x l n = by_lt_z (pos 8 *ℤ d) x (λ s. omega (arith, ints, s)) (λ s. absurd (n (omega (arith, ints, l, s))))
@@ -145,8 +145,8 @@ module _ (point : List ℤ) where
   after_one (g ∷ gs) [] first x match p h = absurd match
   after_one (g ∷ gs) (q ∷ ps) first x match p h =
       by_either (one_true (meets (above g.end first) point) (meet_one point (map (λ f. above f.end first) gs)) h)
-        (λ t. let a = above_is g.end first (q.first +ℤ q.size) x match.1.end p t in omega (arith, ints, clamps))
-        (λ t. let a = after_one gs ps first x match.2 p t in omega (arith, ints, clamps))
+      (λ t. let a = above_is g.end first (q.first +ℤ q.size) x match.1.end p t in omega (arith, ints, clamps))
+      (λ t. let a = after_one gs ps first x match.2 p t in omega (arith, ints, clamps))
 
   greater_of : (x a b : ℤ) → x <ℤ int_max a b → (x <ℤ a) ⊎ (x <ℤ b)
   greater_of x a b h = by_lt_z x a (λ l. inl l) (λ l. inr (omega (arith, ints, clamps)))
@@ -157,8 +157,8 @@ module _ (point : List ℤ) where
   one_after (g ∷ gs) [] first x match p h = absurd match
   one_after (g ∷ gs) (q ∷ ps) first x match p h =
       by_either (greater_of x (q.first +ℤ q.size) (covered ps) h)
-        (λ l. inl (left_true (meets (above g.end first) point) (meet_one point (map (λ f. above f.end first) gs)) (is_above g.end first (q.first +ℤ q.size) x match.1.end p l)))
-        (λ l. on (one_after gs ps first x match.2 p l))
+      (λ l. inl (left_true (meets (above g.end first) point) (meet_one point (map (λ f. above f.end first) gs)) (is_above g.end first (q.first +ℤ q.size) x match.1.end p l)))
+      (λ l. on (one_after gs ps first x match.2 p l))
     where
       on : (meet_one point (map (λ f. above f.end first) gs) ≡ true) ⊎ (x <ℤ pos 0) → (meet_one point (map (λ f. above f.end first) (g ∷ gs)) ≡ true) ⊎ (x <ℤ pos 0)
       on (inl t) = inl (right_true (meets (above g.end first) point) (meet_one point (map (λ f. above f.end first) gs)) t)
@@ -188,15 +188,15 @@ module _ (point : List ℤ) where
       no e = cc
   one_of_both (g ∷ fs) f h =
       by_either (one_true (meets g point) (meet_one point (fs ++ f ∷ [])) h)
-        (λ t. inl (left_true (meets g point) (meet_one point fs) t))
-        (λ t. either_way (one_of_both fs f t) (λ s. right_true (meets g point) (meet_one point fs) s) (λ s. s))
+      (λ t. inl (left_true (meets g point) (meet_one point fs) t))
+      (λ t. either_way (one_of_both fs f t) (λ s. right_true (meets g point) (meet_one point fs) s) (λ s. s))
 
   first_of_both : (fs : List Form) (f : Form) → meet_one point fs ≡ true → meet_one point (fs ++ f ∷ []) ≡ true
   first_of_both [] f h = absurd (cc)
   first_of_both (g ∷ fs) f h =
       by_either (one_true (meets g point) (meet_one point fs) h)
-        (λ t. left_true (meets g point) (meet_one point (fs ++ f ∷ [])) t)
-        (λ t. right_true (meets g point) (meet_one point (fs ++ f ∷ [])) (first_of_both fs f t))
+      (λ t. left_true (meets g point) (meet_one point (fs ++ f ∷ [])) t)
+      (λ t. right_true (meets g point) (meet_one point (fs ++ f ∷ [])) (first_of_both fs f t))
 
   last_of_both : (fs : List Form) (f : Form) → meets f point ≡ true → meet_one point (fs ++ f ∷ []) ≡ true
   last_of_both [] f h = left_true (meets f point) false h
@@ -210,12 +210,12 @@ module _ (point : List ℤ) where
       let fs = map (λ f. above f.end first) (g ∷ gs) in
       let all = map (λ f. above first f.end) (g ∷ gs) in
       by_either (one_of_both fs (All all) (sym (meets_any (fs ++ All all ∷ []) point) ∙ h))
-        (λ t. let a = after_one (g ∷ gs) (q ∷ ps) first x match p t in absurd (omega (arith, ints)))
-        (λ t.
-          let s = sym (meets_all all point) ∙ t in
-          let b = above_is first g.end x (q.first +ℤ q.size) p match.1.end (both {a = meets (above first g.end) point} s).0 in
-          let l : pos 0 <ℤ x = let i = w.0 in omega (arith, ints, i, b) in
-          let a = after_all (g ∷ gs) (q ∷ ps) first x match p l s in absurd (omega (arith, ints)))
+      (λ t. let a = after_one (g ∷ gs) (q ∷ ps) first x match p t in absurd (omega (arith, ints)))
+      (λ t.
+      let s = sym (meets_all all point) ∙ t in
+      let b = above_is first g.end x (q.first +ℤ q.size) p match.1.end (both {a = meets (above first g.end) point} s).0 in
+      let l : pos 0 <ℤ x = let i = w.0 in omega (arith, ints, i, b) in
+      let a = after_all (g ∷ gs) (q ∷ ps) first x match p l s in absurd (omega (arith, ints)))
 
   pub is_uncovered : (gs : List Formed) (ps : List Placed) (first : Linear) (x : ℤ) → Matches point gs ps → EndsInside ps → at first point ≡ x → (x ≡ covered ps → ⊥) → meets (cover_formula gs first) point ≡ true
   is_uncovered [] [] first x match w p h = is_unequal first (constant (pos 0)) x (pos 0) p (at_constant (pos 0) point) h
@@ -226,9 +226,9 @@ module _ (point : List ℤ) where
       let all = map (λ f. above first f.end) (g ∷ gs) in
       meets_any (fs ++ All all ∷ []) point
       ∙ by_lt_z x (covered (q ∷ ps))
-        (λ l. first_of_both fs (All all) (by_either (one_after (g ∷ gs) (q ∷ ps) first x match p l) (λ t. t)
-          (λ n. left_true (meets (above g.end first) point) (meet_one point (map (λ f. above f.end first) gs)) (is_above g.end first (q.first +ℤ q.size) x match.1.end p (let i = w.0 in omega (arith, ints, i, n))))))
-        (λ l. last_of_both fs (All all) (meets_all all point ∙ all_before (g ∷ gs) (q ∷ ps) first x match p (strictly x (covered (q ∷ ps)) l h)))
+      (λ l. first_of_both fs (All all) (by_either (one_after (g ∷ gs) (q ∷ ps) first x match p l) (λ t. t)
+      (λ n. left_true (meets (above g.end first) point) (meet_one point (map (λ f. above f.end first) gs)) (is_above g.end first (q.first +ℤ q.size) x match.1.end p (let i = w.0 in omega (arith, ints, i, n))))))
+      (λ l. last_of_both fs (All all) (meets_all all point ∙ all_before (g ∷ gs) (q ∷ ps) first x match p (strictly x (covered (q ∷ ps)) l h)))
     where
       strictly : (x y : ℤ) → y ≤ℤ x → (x ≡ y → ⊥) → y <ℤ x
       strictly x y l n = by_lt_z y x (λ s. s) (λ s. absurd (n (omega (arith, ints, l, s))))
@@ -253,7 +253,7 @@ module _ (point : List ℤ) where
   is_null gs ps end match w p h =
       meets_any (map (λ f. above f.end end) gs) point
       ∙ by_either (one_after gs ps end (end_of ps) match p (strictly (end_of ps) (covered ps) (last_covered ps) h)) (λ t. t)
-        (λ n. absurd (let i = last_inside ps w in omega (arith, ints)))
+      (λ n. absurd (let i = last_inside ps w in omega (arith, ints)))
     where
       strictly : (x y : ℤ) → x ≤ℤ y → (x ≡ y → ⊥) → x <ℤ y
       strictly x y l n = by_lt_z x y (λ s. s) (λ s. absurd (n (omega (arith, ints, l, s))))

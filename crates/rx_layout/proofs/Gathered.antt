@@ -80,10 +80,13 @@ negated z k h = omega (arith, ints, h)
 row_fits : (n : ℕ) (f : Linear) → fits_row n f ≡ true → FitsSystem n (row_of n f)
 row_fits n f h =
     let p = both {a = nat_le (length f.coefficients) n && all_below (2 ^ 20) f.coefficients} h in
-    let q = both {a = nat_le (length f.coefficients) n} p.0 in
-    (padded_length n f.coefficients (up_to (length f.coefficients) n q.0),
-     (All-append (λ z. unsigned_abs z < 2 ^ 20) f.coefficients (replicate (n - length f.coefficients) (pos 0)) (small (2 ^ 20) f.coefficients q.1) (zeros_small (2 ^ 20) (n - length f.coefficients) (omega arith)),
-      negated f.constant (2 ^ 100) (below (unsigned_abs f.constant) (2 ^ 100) p.1)))
+    let q = both {a = nat_le (length f.coefficients) n} p.0 in (
+      padded_length n f.coefficients (up_to (length f.coefficients) n q.0),
+      (
+        All-append (λ z. unsigned_abs z < 2 ^ 20) f.coefficients (replicate (n - length f.coefficients) (pos 0)) (small (2 ^ 20) f.coefficients q.1) (zeros_small (2 ^ 20) (n - length f.coefficients) (omega arith)),
+        negated f.constant (2 ^ 100) (below (unsigned_abs f.constant) (2 ^ 100) p.1),
+      ),
+    )
 
 false_fits : (n : ℕ) → FitsSystem n (false_row n)
 false_fits n = (zeros_length n, (zeros_small (2 ^ 20) n (omega arith), omega (arith, ints)))

@@ -71,14 +71,14 @@ module _ (domains : List Domain) (m : Graph) (hold : AllGoalsHold domains m) whe
   position node n total path fields i link partial num taken f target =
       let e = in_message total fields in
       let none : ((first_of link e <ℤ pos 0) ⊎ (size_to domains m link e f <ℤ pos 0)) → ⊥ =
-          λ o. hold (Position node n) (i, link, num, (f, target)) total path fields (record { partial = partial; met = (i, link, num, (taken, (f, target, o))) }) in
+      λ o. hold (Position node n) (i, link, num, (f, target)) total path fields (record { partial = partial; met = (i, link, num, (taken, (f, target, o))) }) in
       (not_below (first_of link e) (λ l. none (inl l)), not_below (size_to domains m link e f) (λ l. none (inr l)))
 
   grid : (node : Node) (n : ℕ) → Checks.HasGrid domains m node n
   grid node n total path fields i link partial num taken f target bytes =
       let e = in_message total fields in
       let none : (IsNoMultipleOf8 (first_of link e) ⊎ IsNoMultipleOf8 (size_to domains m link e f)) → ⊥ =
-          λ o. hold (Grid node n) (i, link, num, (f, target, bytes)) total path fields (record { partial = partial; met = (i, link, num, (taken, (f, target, o))) }) in
+      λ o. hold (Grid node n) (i, link, num, (f, target, bytes)) total path fields (record { partial = partial; met = (i, link, num, (taken, (f, target, o))) }) in
       (multiple (first_of link e) (λ l. none (inl l)), multiple (size_to domains m link e f) (λ l. none (inr l)))
 
   overlay : (node : Node) (n : ℕ) → Checks.HasOverlay domains m node n
@@ -89,9 +89,10 @@ module _ (domains : List Domain) (m : Graph) (hold : AllGoalsHold domains m) whe
 
   cover : (node : Node) (n : ℕ) → Checks.HasCover domains m node n
   cover node n total path fields i link partial num taken =
-      let e = in_message total fields in
-      ((λ f target over. same (first_of link e) (covered fields) (λ o. hold (Cover node n) (i, link, num, tt) total path fields (record { partial = partial; met = (i, link, num, (taken, inl (f, target, over, o))) }))),
-       (λ target. same (end_of fields) (covered fields) (λ o. hold (Cover node n) (i, link, num, tt) total path fields (record { partial = partial; met = (i, link, num, (taken, inr (target, o))) }))))
+      let e = in_message total fields in (
+        (λ f target over. same (first_of link e) (covered fields) (λ o. hold (Cover node n) (i, link, num, tt) total path fields (record { partial = partial; met = (i, link, num, (taken, inl (f, target, over, o))) }))),
+        (λ target. same (end_of fields) (covered fields) (λ o. hold (Cover node n) (i, link, num, tt) total path fields (record { partial = partial; met = (i, link, num, (taken, inr (target, o))) }))),
+      )
 
   whole : (node : Node) (n : ℕ) → Checks.HasWhole domains m node n
   whole node n total path fields i link partial num taken target =

@@ -8,6 +8,7 @@ pub mod Even
 pub mod Formulas
 pub mod Gathered
 pub mod Holding
+pub mod Units
 pub mod Whole
 pub mod Listing
 pub mod Lists

@@ -21,12 +21,12 @@ use Rattle.rx_layout.proofs.Numbered.{numbered_found, leaves, counted, counted_f
 
 -- ---- lists behind one another
 
-left_among : {X : Type 0} (x : X) (xs ys : List X) → Among x xs → Among x (xs ++ ys)
+pub left_among : {X : Type 0} (x : X) (xs ys : List X) → Among x xs → Among x (xs ++ ys)
 left_among x [] ys h = absurd h
 left_among x (y ∷ xs) ys (inl e) = inl e
 left_among x (y ∷ xs) ys (inr h) = inr (left_among x xs ys h)
 
-right_among : {X : Type 0} (x : X) (xs ys : List X) → Among x ys → Among x (xs ++ ys)
+pub right_among : {X : Type 0} (x : X) (xs ys : List X) → Among x ys → Among x (xs ++ ys)
 right_among x [] ys h = h
 right_among x (y ∷ xs) ys h = inr (right_among x xs ys h)
 

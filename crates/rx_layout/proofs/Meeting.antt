@@ -74,9 +74,12 @@ module _ (domains : List Domain) (m : Graph) (el : IsElaborated domains m) (form
       let counted = numbers_length domains m p.total [] Start path p.fields (source goal) p.partial.leads in
       let least = division_least domains m (1 + Steps.scalars_on domains m on) on in
       let more = conditions_least n links in
-      let long = enough (Carried.numbers_of domains m p.fields) p.total (Steps.scalars_on domains m on) n (past n links) (divisions_in_any first) (divisions_in_any size) quotients (length point) counted least more whole in
-      (p.total, p.fields, record { partial = p.partial; met = met p g },
-       cut_of domains m point p.total (1 + Steps.scalars_on domains m on) on p.fields p.length_is (links_length domains m p.total [] Start path p.fields (source goal) p.partial.leads) p.matches long)
+      let long = enough (Carried.numbers_of domains m p.fields) p.total (Steps.scalars_on domains m on) n (past n links) (divisions_in_any first) (divisions_in_any size) quotients (length point) counted least more whole in (
+        p.total,
+        p.fields,
+        record { partial = p.partial; met = met p g },
+        cut_of domains m point p.total (1 + Steps.scalars_on domains m on) on p.fields p.length_is (links_length domains m p.total [] Start path p.fields (source goal) p.partial.leads) p.matches long,
+      )
     where
       enough : (numbers : List ℤ) (total count n k x y z l : ℕ) → length numbers ≡ count → 1 + count ≤ n → n ≤ k → l ≡ k + x + y + z → length (pos total ∷ numbers) ≤ l
       enough numbers total count n k x y z l a b c d = omega arith
@@ -90,8 +93,11 @@ module _ (domains : List Domain) (m : Graph) (el : IsElaborated domains m) (form
       → Laws.HasPoint domains m goal total path fields
   placed goal total path fields partial links first size formula units quotients qs is fm nr nf rf ns rs taken lq serves =
       let h = point_at domains m el formable narrow total path fields (source goal) partial links first size formula units quotients qs fm nr nf rf ns rs taken lq serves in
-      let asked = QueryOf.asked_at domains m goal path in
-      (h.0, record {
-         whole = h.1 ∙ sym (ap (λ (a : Asked). a.variables) is) ∙ sym (query_variables asked.variables (QueryOf.asked_form domains m path asked));
-         satisfies = subst (λ (a : Asked). satisfied (QueryOf.asked_query domains m path a) h.0 ≡ true) (sym is) h.2;
-       }, h.3)
+      let asked = QueryOf.asked_at domains m goal path in (
+        h.0,
+        record {
+          whole = h.1 ∙ sym (ap (λ (a : Asked). a.variables) is) ∙ sym (query_variables asked.variables (QueryOf.asked_form domains m path asked));
+          satisfies = subst (λ (a : Asked). satisfied (QueryOf.asked_query domains m path a) h.0 ≡ true) (sym is) h.2;
+        },
+        h.3,
+      )

@@ -78,12 +78,22 @@ module _ (domains : List Domain) (m : Graph) (el : IsElaborated domains m) (form
       found domains m el formable narrow (Position node a) path point (link ∷ []) link.first (size_aspect (type_on link) link.size) (position_on path link ∷ []) [] 0 lt (position_asked node a is.0 link path is.2)
       (fm, tt) fm.first (numeric_aspect (type_on link) link.size fm.size) at
       (λ p g.
-        let e = in_message p.total p.fields in
-        let r = represents point p.total gs p.fields p.length_is p.matches in
-        let fv = first_value (limit_of domains m) point gs p.fields p.total r p.matches link n fm.first g.first_solved in
-        let sv = size_value (limit_of domains m) point gs p.fields p.total r p.matches link n (type_on link) fm.size fv g.size_solved ∙ size_at link e is.3.0 is.3.1 in
-        (is.0, link, is.2, (g.taken.0, (is.3.0, is.3.1,
-          position_is point (first_form (step_on path link)) (size_form (type_on link) (step_on path link)) (first_of link e) (size_to domains m link e is.3.0) fv sv (one_holds (position_on path link) point g.holds)))))
+      let e = in_message p.total p.fields in
+      let r = represents point p.total gs p.fields p.length_is p.matches in
+      let fv = first_value (limit_of domains m) point gs p.fields p.total r p.matches link n fm.first g.first_solved in
+      let sv = size_value (limit_of domains m) point gs p.fields p.total r p.matches link n (type_on link) fm.size fv g.size_solved ∙ size_at link e is.3.0 is.3.1 in (
+        is.0,
+        link,
+        is.2,
+        (
+          g.taken.0,
+          (
+            is.3.0,
+            is.3.1,
+            position_is point (first_form (step_on path link)) (size_form (type_on link) (step_on path link)) (first_of link e) (size_to domains m link e is.3.0) fv sv (one_holds (position_on path link) point g.holds),
+          ),
+        ),
+      ))
 
   pub position_point : (node : Node) (a total : ℕ) (path : List ℕ) (fields : List Placed) → MetBy domains m (Position node a) total path fields → Laws.HasPoint domains m (Position node a) total path fields
   position_point node a total path fields h =
@@ -98,10 +108,10 @@ module _ (domains : List Domain) (m : Graph) (el : IsElaborated domains m) (form
       placed domains m el formable narrow (Position node a) total path fields h.partial (link ∷ []) link.first (size_aspect (type_on link) link.size) (position_on path link ∷ []) [] 0 [] (position_asked node a i link path h.met.2)
       (fm, tt) (nr, tt) fm.first nr.first (numeric_aspect (type_on link) link.size fm.size) (narrow_aspect (limit_of domains m) (type_on link) link.size nr.size) (h.met.3.0, tt) refl
       (λ point t match fs ss front is l.
-        let r = represents point total gs fields t match in
-        let fv = first_value (limit_of domains m) point gs fields total r match link n fm.first fs in
-        let sv = size_value (limit_of domains m) point gs fields total r match link n (type_on link) fm.size fv ss ∙ size_at link e f h.met.3.1.1 in
-        (holds_one (position_on path link) point (is_position point (first_form (step_on path link)) (size_form (type_on link) (step_on path link)) (first_of link e) (size_to domains m link e f) fv sv h.met.3.1.2), refl))
+      let r = represents point total gs fields t match in
+      let fv = first_value (limit_of domains m) point gs fields total r match link n fm.first fs in
+      let sv = size_value (limit_of domains m) point gs fields total r match link n (type_on link) fm.size fv ss ∙ size_at link e f h.met.3.1.1 in
+      (holds_one (position_on path link) point (is_position point (first_form (step_on path link)) (size_form (type_on link) (step_on path link)) (first_of link e) (size_to domains m link e f) fv sv h.met.3.1.2), refl))
 
   -- ---- Overlay
 
@@ -127,12 +137,24 @@ module _ (domains : List Domain) (m : Graph) (el : IsElaborated domains m) (form
       found domains m el formable narrow (Overlay node a) path point (link ∷ []) link.first (size_aspect (type_on link) link.size) (overlay_on path link x ∷ []) [] 0 lt (overlay_asked node a is.0 link f x path is.2 is.3.2 is.3.3)
       (fm, tt) fm.first (numeric_aspect (type_on link) link.size fm.size) at
       (λ p g.
-        let e = in_message p.total p.fields in
-        let r = represents point p.total gs p.fields p.length_is p.matches in
-        let fv = first_value (limit_of domains m) point gs p.fields p.total r p.matches link n fm.first g.first_solved in
-        let sv = size_value (limit_of domains m) point gs p.fields p.total r p.matches link n (type_on link) fm.size fv g.size_solved ∙ size_at link e f is.3.2 in
-        (is.0, link, is.2, (g.taken.0, (f, x, is.3.2, is.3.3,
-          unequal_is point (size_form (type_on link) (step_on path link)) (formed_of x gs).size (size_to domains m link e f) (place_of x p.fields).size sv (r.places x).size (one_holds (overlay_on path link x) point g.holds)))))
+      let e = in_message p.total p.fields in
+      let r = represents point p.total gs p.fields p.length_is p.matches in
+      let fv = first_value (limit_of domains m) point gs p.fields p.total r p.matches link n fm.first g.first_solved in
+      let sv = size_value (limit_of domains m) point gs p.fields p.total r p.matches link n (type_on link) fm.size fv g.size_solved ∙ size_at link e f is.3.2 in (
+        is.0,
+        link,
+        is.2,
+        (
+          g.taken.0,
+          (
+            f,
+            x,
+            is.3.2,
+            is.3.3,
+            unequal_is point (size_form (type_on link) (step_on path link)) (formed_of x gs).size (size_to domains m link e f) (place_of x p.fields).size sv (r.places x).size (one_holds (overlay_on path link x) point g.holds),
+          ),
+        ),
+      ))
 
   pub overlay_point : (node : Node) (a total : ℕ) (path : List ℕ) (fields : List Placed) → MetBy domains m (Overlay node a) total path fields → Laws.HasPoint domains m (Overlay node a) total path fields
   overlay_point node a total path fields h =
@@ -148,10 +170,10 @@ module _ (domains : List Domain) (m : Graph) (el : IsElaborated domains m) (form
       placed domains m el formable narrow (Overlay node a) total path fields h.partial (link ∷ []) link.first (size_aspect (type_on link) link.size) (overlay_on path link x ∷ []) [] 0 [] (overlay_asked node a i link f x path h.met.2 h.met.3.1.2 h.met.3.1.3)
       (fm, tt) (nr, tt) fm.first nr.first (numeric_aspect (type_on link) link.size fm.size) (narrow_aspect (limit_of domains m) (type_on link) link.size nr.size) (h.met.3.0, tt) refl
       (λ point t match fs ss front is l.
-        let r = represents point total gs fields t match in
-        let fv = first_value (limit_of domains m) point gs fields total r match link n fm.first fs in
-        let sv = size_value (limit_of domains m) point gs fields total r match link n (type_on link) fm.size fv ss ∙ size_at link e f h.met.3.1.2 in
-        (holds_one (overlay_on path link x) point (is_unequal point (size_form (type_on link) (step_on path link)) (formed_of x gs).size (size_to domains m link e f) (place_of x fields).size sv (r.places x).size h.met.3.1.4), refl))
+      let r = represents point total gs fields t match in
+      let fv = first_value (limit_of domains m) point gs fields total r match link n fm.first fs in
+      let sv = size_value (limit_of domains m) point gs fields total r match link n (type_on link) fm.size fv ss ∙ size_at link e f h.met.3.1.2 in
+      (holds_one (overlay_on path link x) point (is_unequal point (size_form (type_on link) (step_on path link)) (formed_of x gs).size (size_to domains m link e f) (place_of x fields).size sv (r.places x).size h.met.3.1.4), refl))
 
   -- ---- Grid
 
@@ -183,12 +205,22 @@ module _ (domains : List Domain) (m : Graph) (el : IsElaborated domains m) (form
       found domains m el formable narrow (Grid node a) path point (link ∷ []) link.first link.size (grid_on path link ∷ []) (grid_units path link) 2 lt (grid_asked node a is.0 link path is.2)
       (fm, tt) fm.first fm.size at
       (λ p g.
-        let e = in_message p.total p.fields in
-        let r = represents point p.total gs p.fields p.length_is p.matches in
-        let fv = first_value (limit_of domains m) point gs p.fields p.total r p.matches link n fm.first g.first_solved in
-        let sv = size_value (limit_of domains m) point gs p.fields p.total r p.matches link n None fm.size fv g.size_solved ∙ bytes_size link e f is.3.2 in
-        (is.0, link, is.2, (g.taken.0, (f, is.3.1,
-          grid_is point (first_form (step_on path link)) (size_form None (step_on path link)) (quotient_on path link) (first_of link e) (size_to domains m link e f) fv sv (one_holds (grid_on path link) point g.holds)))))
+      let e = in_message p.total p.fields in
+      let r = represents point p.total gs p.fields p.length_is p.matches in
+      let fv = first_value (limit_of domains m) point gs p.fields p.total r p.matches link n fm.first g.first_solved in
+      let sv = size_value (limit_of domains m) point gs p.fields p.total r p.matches link n None fm.size fv g.size_solved ∙ bytes_size link e f is.3.2 in (
+        is.0,
+        link,
+        is.2,
+        (
+          g.taken.0,
+          (
+            f,
+            is.3.1,
+            grid_is point (first_form (step_on path link)) (size_form None (step_on path link)) (quotient_on path link) (first_of link e) (size_to domains m link e f) fv sv (one_holds (grid_on path link) point g.holds),
+          ),
+        ),
+      ))
 
   -- what a First that no aspect gives lies between
   end_in_bits : (total : ℕ) (z : ℤ) → total < 2 ^ 24 → pos 0 ≤ℤ z → z ≤ℤ pos (total * 8) → IsIn z places_in_bits
@@ -225,13 +257,14 @@ module _ (domains : List Domain) (m : Graph) (el : IsElaborated domains m) (form
       placed domains m el formable narrow (Grid node a) total path fields h.partial (link ∷ []) link.first link.size (grid_on path link ∷ []) (grid_units path link) 2 qs (grid_asked node a i link path goal.2)
       (fm, tt) (nr, tt) fm.first nr.first fm.size nr.size (met.0, tt) refl
       (λ point t match fs ss front is l.
-        let r = represents point total gs fields t match in
-        let fv = first_value (limit_of domains m) point gs fields total r match link n fm.first fs in
-        let sv = size_value (limit_of domains m) point gs fields total r match link n None fm.size fv ss in
-        let k : get_or point q (pos 0) ≡ int_div_euclid x (pos 8) = ap (λ (zs : List ℤ). get_or zs q (pos 0)) is ∙ at_end front (size_quotient link.size y ∷ []) (int_div_euclid x (pos 8)) q l in
-        let j : get_or point (q + 1) (pos 0) ≡ size_quotient link.size y = ap (λ (zs : List ℤ). get_or zs (q + 1) (pos 0)) (is ∙ sym (append_assoc front (int_div_euclid x (pos 8) ∷ []) (size_quotient link.size y ∷ [])))
-            ∙ at_end (front ++ int_div_euclid x (pos 8) ∷ []) [] (size_quotient link.size y) (q + 1) (two front (int_div_euclid x (pos 8) ∷ []) q 1 l refl) in
-        (holds_one (grid_on path link) point (is_off_grid point e link.size (first_form (step_on path link)) (size_form None (step_on path link)) q x fv sv k j or),
-         of_parts point (unit_rows q (interval_or (limit_of domains m) link.first places_in_bits)) (unit_rows (q + 1) (interval_or (limit_of domains m) link.size rest_interval))
-           (quotient_units point q (interval_or (limit_of domains m) link.first places_in_bits) x k (value_within (limit_of domains m) e w link.first places_in_bits (end_of fields) nr.first (first_within total path fields node h.partial)))
-           (size_units (limit_of domains m) e w point (q + 1) link.size (bits_of e -ℤ x) nr.size j)))
+      let r = represents point total gs fields t match in
+      let fv = first_value (limit_of domains m) point gs fields total r match link n fm.first fs in
+      let sv = size_value (limit_of domains m) point gs fields total r match link n None fm.size fv ss in
+      let k : get_or point q (pos 0) ≡ int_div_euclid x (pos 8) = ap (λ (zs : List ℤ). get_or zs q (pos 0)) is ∙ at_end front (size_quotient link.size y ∷ []) (int_div_euclid x (pos 8)) q l in
+      let j : get_or point (q + 1) (pos 0) ≡ size_quotient link.size y = ap (λ (zs : List ℤ). get_or zs (q + 1) (pos 0)) (is ∙ sym (append_assoc front (int_div_euclid x (pos 8) ∷ []) (size_quotient link.size y ∷ [])))
+      ∙ at_end (front ++ int_div_euclid x (pos 8) ∷ []) [] (size_quotient link.size y) (q + 1) (two front (int_div_euclid x (pos 8) ∷ []) q 1 l refl) in (
+        holds_one (grid_on path link) point (is_off_grid point e link.size (first_form (step_on path link)) (size_form None (step_on path link)) q x fv sv k j or),
+        of_parts point (unit_rows q (interval_or (limit_of domains m) link.first places_in_bits)) (unit_rows (q + 1) (interval_or (limit_of domains m) link.size rest_interval))
+            (quotient_units point q (interval_or (limit_of domains m) link.first places_in_bits) x k (value_within (limit_of domains m) e w link.first places_in_bits (end_of fields) nr.first (first_within total path fields node h.partial)))
+            (size_units (limit_of domains m) e w point (q + 1) link.size (bits_of e -ℤ x) nr.size j),
+      ))

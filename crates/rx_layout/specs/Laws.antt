@@ -4,8 +4,11 @@
 --   PointsMeetGoals    a point of a query has the numbers of a partial path that meets the goal
 --   GoalsHavePoints    and such numbers have a point
 --   QueriesAreEven     queries are even
+--   QueriesAreBounded  each variable of a query has a row that bounds it from below and one that bounds it from above
+--   ListsGoals         the goals of a message are those that are listed
 --   GoalsMakeSound     where all goals hold, all checks do
-use Rattle.std.specs.Prelude.{◌≡◌, ℕ, List, ◌∷◌, ℤ, pos, true, length, take}
+use Rattle.std.specs.Prelude.{◌≡◌, ◌↔◌, ◌<◌, ℕ, List, ◌∷◌, ℤ, pos, negsuc, Bool, true, ◌&&◌, length, take}
+use Rattle.std.specs.List.{list_any}
 use Rattle.rx_types.specs.Domain.{Domain}
 use Rattle.rx_types.specs.Environment.{Placed}
 use Rattle.rx_graph.specs.declared.message.Node.TheVariants.{Start}
@@ -13,15 +16,22 @@ use Rattle.rx_graph.specs.Graph.{Graph}
 use Rattle.rx_graph.specs.Cycles.{IsPath}
 use Rattle.rx_graph.specs.Checks.{AllHold}
 use Rattle.rx_forms.specs.Carried.{numbers_of}
+use Rattle.rx_linear.specs.declared.row.Row.{Row}
+use Rattle.rx_linear.specs.Units.{is_unit_row}
 use Rattle.rx_proof.specs.declared.query.Query.{Query, out-Query}
 use Rattle.rx_proof.specs.Queries.{satisfied, IsEven}
 use Rattle.rx_layout.specs.declared.goal.Goal.{Goal}
 use Rattle.rx_layout.specs.Goals.{source, MetBy, IsGoal, AllGoalsHold}
 use Rattle.rx_layout.specs.QueryOf.{query_for}
+use Rattle.rx_layout.specs.Listed.{Among, all_goals}
 
 pub record IsPoint (query : Query) (point : List ℤ) : Type 0 where
   pub whole : length point ≡ (out-Query query).system.variables
   pub satisfies : satisfied query point ≡ true
+
+-- variable x has a row alone with coefficient 1, and one with coefficient -1
+abbrev pub has_unit_rows : ℕ → List Row → Bool
+has_unit_rows x rows = list_any (is_unit_row x (pos 1)) rows && list_any (is_unit_row x (negsuc 0)) rows
 
 module _ (domains : List Domain) (m : Graph) where
   abbrev pub IsCutTo : List ℤ → ℕ → List Placed → Type 0
@@ -42,6 +52,13 @@ module _ (domains : List Domain) (m : Graph) where
 
   abbrev pub QueriesAreEven : Type 0
   QueriesAreEven = (goal : Goal) (path : List ℕ) → IsEven (query_for domains m goal path)
+
+  abbrev pub QueriesAreBounded : Type 0
+  QueriesAreBounded =
+      (goal : Goal) (path : List ℕ) (x : ℕ) → x < (out-Query (query_for domains m goal path)).system.variables → has_unit_rows x (out-Query (query_for domains m goal path)).system.rows ≡ true
+
+  abbrev pub ListsGoals : Type 0
+  ListsGoals = (goal : Goal) → IsGoal domains m goal ↔ Among goal (all_goals domains m)
 
   abbrev pub GoalsMakeSound : Type 0
   GoalsMakeSound = AllGoalsHold domains m → AllHold domains m

@@ -4,7 +4,7 @@ ghost use Rattle.std.specs.Prelude.{◌≡◌, Some, slice_get};
 ghost use Rattle.rx_types.specs.Domain.{Domain, boolean};
 ghost use Rattle.rx_graph.specs.Elaborated.{IsElaborated};
 ghost use Rattle.rx_graph.specs.Graph.{domains_of, graph_of};
-ghost use Rattle.rx_layout.specs.Laws.{PointsMeetGoals, GoalsHavePoints, QueriesAreEven, GoalsMakeSound};
+ghost use Rattle.rx_layout.specs.Laws.{PointsMeetGoals, GoalsHavePoints, QueriesAreEven, QueriesAreBounded, ListsGoals, GoalsMakeSound};
 
 use rx_graph::{Message, Spec};
 
@@ -25,6 +25,18 @@ pub fn goals_have_points(spec: &Spec, message: &Message)
 /// All systems in a query of a path and a goal have the same number of variables.
 pub fn queries_are_even(spec: &Spec, message: &Message)
     ensures { QueriesAreEven (domains_of spec.now) (graph_of message.now) }
+{}
+
+/// Each variable of a query of a path and a goal has a row that bounds it from below and one that bounds it from above.
+pub fn queries_are_bounded(spec: &Spec, message: &Message)
+    requires elaborated { IsElaborated (domains_of spec.now) (graph_of message.now) }
+    ensures { QueriesAreBounded (domains_of spec.now) (graph_of message.now) }
+{}
+
+/// The goals of an elaborated message are those that are listed.
+pub fn goals_are_listed(spec: &Spec, message: &Message)
+    requires elaborated { IsElaborated (domains_of spec.now) (graph_of message.now) }
+    ensures { ListsGoals (domains_of spec.now) (graph_of message.now) }
 {}
 
 /// Where all goals of a message hold, all its checks do.

@@ -8,5 +8,8 @@ mod parts;
 
 pub use fault::NoMemory;
 pub use goal::Goal;
+pub use laws::{
+    goals_are_listed, goals_have_points, goals_make_sound, points_meet_goals, queries_are_bounded,
+    queries_are_even,
+};
 pub use parts::{Parts, query_of_form};
-pub use laws::{goals_have_points, goals_make_sound, points_meet_goals, queries_are_even};
