@@ -1,5 +1,5 @@
 -- What is asked at the end of a path holds at a point where the links are taken and the formula holds.
-use Rattle.std.proofs.Common.{◌≡◌, refl, sym, ap, ◌∙◌, ℕ, ◌+◌, arith, List, [], ◌∷◌, ◌++◌, length, Bool, true, ℤ, Option, append_assoc}
+use Rattle.std.proofs.Common.{◌≡◌, refl, sym, ap, ◌∙◌, ℕ, ◌+◌, arith, List, [], ◌∷◌, ◌++◌, length, true, ℤ, Option, append_assoc}
 use Rattle.std.specs.List.{AllByRecursion}
 use Rattle.rx_linear.proofs.Joining.{both, and_true}
 use Rattle.rx_types.specs.Tree.{Tree}

@@ -1,8 +1,7 @@
 -- The queries of Cover and Whole.
-use Rattle.std.proofs.Common.{◌≡◌, refl, sym, ap, subst, ◌∙◌, ℕ, ◌+◌, List, [], ◌∷◌, map, Bool, true, false, get_or, ℤ, pos, Option, Some, None, ◌⊎◌, inl, inr, arith}
+use Rattle.std.proofs.Common.{◌≡◌, refl, sym, ap, ◌∙◌, ℕ, ◌+◌, List, [], ◌∷◌, true, false, get_or, ℤ, pos, Option, Some, None, inl, inr, arith}
 use Rattle.std.specs.Prelude.{slice_get}
 use Rattle.std.specs.Int.{int_div_euclid}
-use Rattle.rx_linear.proofs.Joining.{both, and_true}
 use Rattle.rx_types.specs.Domain.{Domain}
 use Rattle.rx_types.specs.Environment.{Placed, in_message, end_of}
 use Rattle.rx_types.specs.Narrow.{places_in_bits}
@@ -11,9 +10,8 @@ use Rattle.rx_graph.specs.declared.message.Node.TheVariants.{Start, At, Null}
 use Rattle.rx_graph.specs.Graph.{Arrow, Graph, limit_of, overlay_of}
 use Rattle.rx_graph.specs.Elaborated.{IsElaborated, IsTarget}
 use Rattle.rx_graph.specs.Paths.{first_of, IsTrue, IsPartial}
-use Rattle.rx_graph.specs.Checks.{IsNumbered, covered}
+use Rattle.rx_graph.specs.Checks.{IsNumbered}
 use Rattle.rx_forms.specs.declared.linear.Form.{Form, Any}
-use Rattle.rx_forms.specs.Linear.{meets, above}
 use Rattle.rx_forms.specs.Normal.{divisions_in}
 use Rattle.rx_forms.specs.Laws.{fields_on}
 use Rattle.rx_forms.specs.Steps
@@ -28,7 +26,7 @@ use Rattle.rx_layout.specs.QueryOf.{Asked, cover_formula, null_formula, no_multi
 use Rattle.rx_layout.specs.Laws
 use Rattle.rx_layout.specs.Laws.{IsPoint}
 use Rattle.rx_layout.proofs.Formulas.{cover_is, is_uncovered, null_is, is_null, broken_is, is_broken}
-use Rattle.rx_layout.proofs.Lists.{meet_all, meets_any}
+use Rattle.rx_layout.proofs.Lists.{meets_any}
 use Rattle.rx_layout.proofs.Numbered.{numbered_found}
 use Rattle.rx_layout.proofs.Placed.{ends_within, only_above}
 use Rattle.rx_layout.proofs.Meeting

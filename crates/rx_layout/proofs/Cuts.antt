@@ -1,12 +1,12 @@
 -- The first numbers of a point that has the places and numbers of a path's fields are those of its scalars.
-use Rattle.std.proofs.Common.{◌≡◌, refl, sym, ap, subst, ◌∙◌, ℕ, zero, suc, ◌+◌, ◌≤◌, arith, List, [], ◌∷◌, ◌++◌, length, take, get_or, ℤ, pos, Option, Some, None, append_assoc}
+use Rattle.std.proofs.Common.{◌≡◌, refl, sym, ap, subst, ◌∙◌, ℕ, suc, ◌+◌, ◌≤◌, arith, List, [], ◌∷◌, ◌++◌, length, take, get_or, ℤ, pos, Option, Some, None, append_assoc}
 use Rattle.std.proofs.lemmas.List.{length-append}
 use Rattle.rx_types.specs.Domain.{Domain}
 use Rattle.rx_types.specs.Environment.{Placed}
 use Rattle.rx_graph.specs.Graph.{Arrow, Graph, type_of}
 use Rattle.rx_forms.specs.Linear.{at}
 use Rattle.rx_forms.specs.Normal.{Formed}
-use Rattle.rx_forms.specs.Points.{HasPlace, Matches}
+use Rattle.rx_forms.specs.Points.{Matches}
 use Rattle.rx_forms.specs.Steps
 use Rattle.rx_forms.specs.Steps.{Step, target_field, scalars_in, number_form}
 use Rattle.rx_forms.specs.Carried

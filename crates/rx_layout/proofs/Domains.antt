@@ -1,14 +1,13 @@
 -- The fact of a scalar type holds exactly where the variable has a number of the type.
-use Rattle.std.proofs.Common.{◌≡◌, refl, sym, ap, subst, ◌∙◌, ℕ, zero, suc, ◌+◌, ◌-◌, ◌<◌, ◌≤◌, ◌^◌, ◌==◌, arith, List, [], ◌∷◌, ◌++◌, map, length, Bool, true, false, not, ◌||◌, if◌then◌else◌, get_or, ℤ, pos, negsuc, neg_ℤ, ◌+ℤ◌, ◌*ℤ◌, ◌≤ℤ◌, int_le, ◌⊎◌, inl, inr, ◌↔◌}
+use Rattle.std.proofs.Common.{◌≡◌, refl, sym, ap, ◌∙◌, ℕ, zero, suc, ◌+◌, ◌-◌, ◌<◌, ◌≤◌, ◌^◌, ◌==◌, arith, List, [], ◌∷◌, ◌++◌, map, length, Bool, true, false, not, ◌||◌, if◌then◌else◌, get_or, ℤ, pos, negsuc, neg_ℤ, ◌+ℤ◌, ◌≤ℤ◌, ◌⊎◌, inl, inr}
 use Rattle.std.specs.Prelude.{nat_lt, slice_index_or}
-use Rattle.std.specs.List.{Contains, AllByRecursion}
 use Rattle.std.proofs.lemmas.Int.{ints}
 use Rattle.std.proofs.Math.Pow.{pow-sub-lt}
 use Rattle.std.proofs.lemmas.Bool.Decides.{Decides-eqb}
 use Rattle.rx_linear.proofs.Joining.{both, and_true}
 use Rattle.rx_types.specs.declared.scalar.Literal.{Literal}
 use Rattle.rx_types.specs.Domain.{Domain, Integer, Enumeration, IsLiteral, IsNumberOf, numbers_of}
-use Rattle.rx_forms.specs.declared.linear.Form.{Form, AtLeast, All, Any}
+use Rattle.rx_forms.specs.declared.linear.Form.{AtLeast, All, Any}
 use Rattle.rx_forms.specs.Linear.{at, term, meets}
 use Rattle.rx_forms.specs.Laws.{TypesHaveForms}
 use Rattle.rx_forms.proofs.Sums.{at_term}

@@ -1,15 +1,14 @@
 -- The points of a path's query are those of its partial numbers, with what is asked at its end.
-use Rattle.std.proofs.Common.{◌≡◌, refl, sym, ap, subst, ◌∙◌, ℕ, ◌+◌, ◌≤◌, arith, List, [], ◌∷◌, ◌++◌, length, take, Bool, true, get_or, ℤ, pos, Option, Some, None, append_assoc}
-use Rattle.std.specs.List.{AllByRecursion}
+use Rattle.std.proofs.Common.{◌≡◌, refl, sym, ap, ◌∙◌, ℕ, ◌+◌, arith, List, [], ◌∷◌, ◌++◌, length, take, true, get_or, ℤ, pos, Option, Some, None, append_assoc}
 use Rattle.std.proofs.Math.Seq.{take-append_seam}
 use Rattle.rx_types.specs.Tree.{Tree}
 use Rattle.rx_types.specs.Domain.{Domain}
 use Rattle.rx_types.specs.Environment.{Environment, Placed, in_message}
 use Rattle.rx_graph.specs.declared.message.Node.{Node}
-use Rattle.rx_graph.specs.declared.message.Node.TheVariants.{Start, At}
+use Rattle.rx_graph.specs.declared.message.Node.TheVariants.{Start}
 use Rattle.rx_graph.specs.Graph.{Arrow, Graph, limit_of}
 use Rattle.rx_graph.specs.Elaborated.{IsElaborated}
-use Rattle.rx_graph.specs.Paths.{IsPartial, Leads}
+use Rattle.rx_graph.specs.Paths.{IsPartial}
 use Rattle.rx_graph.proofs.Bounded.{stays_within}
 use Rattle.rx_proof.specs.Queries.{satisfied}
 use Rattle.rx_forms.specs.declared.linear.Linear.{Linear}
@@ -33,7 +32,7 @@ use Rattle.rx_layout.proofs.Lists.{meet_all, meets_all}
 use Rattle.rx_layout.proofs.Domains.{types_have_forms}
 use Rattle.rx_layout.proofs.Satisfied.{query_meets}
 use Rattle.rx_layout.proofs.Along.{path_points, points_path}
-use Rattle.rx_layout.proofs.Asking.{AllTaken, AllFormable, AllNarrow, AllSolved, condition_quotients, conditions_length, conditions_solved, Granted, granting}
+use Rattle.rx_layout.proofs.Asking.{AllTaken, AllFormable, AllNarrow, condition_quotients, conditions_length, conditions_solved, granting}
 
 solved_any_at : (x : Option Tree) (e : Environment) (point front rest : List ℤ) (n : ℕ) → point ≡ front ++ (quotients_any x e ++ rest) → length front ≡ n → SolvesAny point n x e
 solved_any_at None e point front rest n h l = tt

@@ -1,23 +1,23 @@
 -- The formula of each goal holds at a point exactly where the numbers of its sums break the goal.
-use Rattle.std.proofs.Common.{◌≡◌, refl, sym, ap, ◌∙◌, ℕ, ◌+◌, arith, List, [], ◌∷◌, ◌++◌, map, Bool, true, false, not, get_or, ℤ, pos, negsuc, ◌+ℤ◌, ◌-ℤ◌, ◌*ℤ◌, ◌<ℤ◌, ◌≤ℤ◌, int_le, ◌⊎◌, inl, inr}
+use Rattle.std.proofs.Common.{◌≡◌, refl, sym, ap, ◌∙◌, ℕ, ◌+◌, arith, List, [], ◌∷◌, ◌++◌, map, true, false, get_or, ℤ, pos, ◌+ℤ◌, ◌-ℤ◌, ◌*ℤ◌, ◌<ℤ◌, ◌≤ℤ◌, ◌⊎◌, inl, inr}
 use Rattle.std.specs.List.{AllByRecursion}
 use Rattle.std.specs.Int.{int_max, int_div_euclid}
 use Rattle.std.proofs.lemmas.Int.{ints, clamps, by_lt_z}
 use Rattle.rx_linear.proofs.Joining.{both, and_true}
 use Rattle.rx_model.proofs.Ring.{div_bounds}
 use Rattle.rx_types.specs.Environment.{Placed, end_of}
-use Rattle.rx_graph.specs.Checks.{IsMultipleOf8, covered}
+use Rattle.rx_graph.specs.Checks.{covered}
 use Rattle.rx_forms.specs.declared.linear.Linear.{Linear}
 use Rattle.rx_forms.specs.declared.linear.Form.{Form, All, Any}
 use Rattle.rx_forms.specs.Linear.{at, constant, term, minus, at_least, above, unequal, meets}
 use Rattle.rx_forms.specs.Normal.{Formed}
-use Rattle.rx_forms.specs.Points.{HasPlace, Matches}
+use Rattle.rx_forms.specs.Points.{Matches}
 use Rattle.rx_forms.proofs.Sums.{at_minus, at_term, at_constant}
 use Rattle.rx_forms.proofs.Quotients.{from_le, to_le}
-use Rattle.rx_forms.proofs.Conditions.{meets_at_least, meets_pair, meets_either, meets_above}
+use Rattle.rx_forms.proofs.Conditions.{meets_at_least, meets_above}
 use Rattle.rx_layout.specs.Goals.{IsNoMultipleOf8}
-use Rattle.rx_layout.specs.QueryOf.{position_formula, no_multiple, grid_formula, overlay_formula, cover_formula}
-use Rattle.rx_layout.proofs.Lists.{meet_all, meet_one, meets_all, meets_any, split, join, one_true, left_true, right_true}
+use Rattle.rx_layout.specs.QueryOf.{position_formula, no_multiple, grid_formula, cover_formula}
+use Rattle.rx_layout.proofs.Lists.{meet_all, meet_one, meets_all, meets_any, one_true, left_true, right_true}
 
 -- ---- comparisons
 

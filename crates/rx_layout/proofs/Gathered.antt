@@ -1,21 +1,20 @@
 -- What the parts of a fact are at each kind of fact, and that they fit a system.
-use Rattle.std.proofs.Common.{◌≡◌, refl, sym, ap, subst, ◌∙◌, ℕ, zero, suc, ◌+◌, ◌-◌, ◌<◌, ◌≤◌, ◌^◌, arith, List, [], ◌∷◌, ◌++◌, map, length, replicate, drop, get_or, Bool, true, ◌&&◌, ℤ, pos, neg_ℤ, unsigned_abs}
+use Rattle.std.proofs.Common.{◌≡◌, refl, sym, ap, subst, ◌∙◌, ℕ, zero, suc, ◌+◌, ◌-◌, ◌<◌, ◌≤◌, ◌^◌, arith, List, [], ◌∷◌, map, length, replicate, drop, get_or, Bool, true, ◌&&◌, ℤ, pos, neg_ℤ, unsigned_abs}
 use Rattle.std.specs.Prelude.{nat_le, nat_lt, Result, Ok, Err, IfOk}
 use Rattle.std.specs.List.{All, list_all}
 use Rattle.std.proofs.lemmas.Int.{ints}
 use Rattle.std.proofs.lemmas.List.{length-append, drop_more}
 use Rattle.std.proofs.lemmas.List.Elements.{All-append, All-cons, All-nil}
-use Rattle.rx_linear.specs.declared.row.Row.{Row}
-use Rattle.rx_linear.specs.Rows.{Narrow, AllBelow, all_below}
+use Rattle.rx_linear.specs.Rows.{AllBelow, all_below}
 use Rattle.rx_linear.specs.Systems.{FitsSystem, IsWithinLimits}
-use Rattle.rx_linear.proofs.Joining.{both, and_true}
+use Rattle.rx_linear.proofs.Joining.{both}
 use Rattle.rx_forms.specs.declared.linear.Linear.{Linear}
 use Rattle.rx_forms.specs.declared.linear.Form.{Form, AtLeast, All as AllOf, Any}
 use Rattle.rx_forms.specs.declared.linear.Form.TheVariants.{rolls-AtLeast, rolls-All, rolls-Any}
 use Rattle.rx_forms.specs.declared.linear.Form.TheOpen.{Form-F}
 use Rattle.rx_forms.specs.declared.linear.Form.TheFolds.{fold-Form, ind-Form, map-Form, fold-roll-Form}
 use Rattle.rx_layout.specs.declared.parts.Parts.{Parts}
-use Rattle.rx_layout.specs.Parts.{padded, row_of, false_row, query_of, all_of, one_of, parts_step, parts_of}
+use Rattle.rx_layout.specs.Parts.{padded, row_of, false_row, all_of, one_of, parts_step, parts_of}
 use Rattle.rx_layout.specs.Fitting.{fits_row, fits_step, fits}
 
 -- ---- each kind of fact

@@ -1,5 +1,5 @@
 -- Where all goals of a message hold, all its checks do.
-use Rattle.std.proofs.Common.{◌≡◌, ◌≢◌, refl, sym, ap, ◌∙◌, ℕ, ◌<◌, ◌≤◌, arith, List, Bool, true, false, length, ℤ, pos, ◌*ℤ◌, ◌+ℤ◌, ◌<ℤ◌, ◌≤ℤ◌, Option, Some, None, ◌⊎◌, inl, inr}
+use Rattle.std.proofs.Common.{◌≡◌, ◌≢◌, refl, sym, ap, ◌∙◌, ℕ, ◌<◌, ◌≤◌, arith, List, Bool, true, false, length, ℤ, pos, ◌*ℤ◌, ◌+ℤ◌, ◌<ℤ◌, ◌≤ℤ◌, Some, None, ◌⊎◌, inl, inr}
 use Rattle.std.specs.Prelude.{slice_get, get_or}
 use Rattle.std.specs.Ordering.{int_eq}
 use Rattle.std.specs.Int.{int_div_euclid}
@@ -10,13 +10,11 @@ use Rattle.rx_model.proofs.Ring.{div_bounds}
 use Rattle.rx_types.specs.Domain.{Domain}
 use Rattle.rx_types.specs.Environment.{in_message, end_of, place_of}
 use Rattle.rx_graph.specs.declared.message.Node.{Node}
-use Rattle.rx_graph.specs.declared.message.Node.TheVariants.{At, Null}
 use Rattle.rx_graph.specs.declared.message.Field as field
 use Rattle.rx_graph.specs.Graph.{Arrow, Graph}
 use Rattle.rx_graph.specs.Paths.{first_of}
 use Rattle.rx_graph.specs.Checks
 use Rattle.rx_graph.specs.Checks.{IsMultipleOf8, IsNumbered, AllHold, covered, size_to}
-use Rattle.rx_layout.specs.declared.goal.Goal.{Goal}
 use Rattle.rx_layout.specs.declared.goal.Goal.TheVariants.{Exclusive, Taken, Reached, Position, Grid, Overlay, Cover, Whole}
 use Rattle.rx_layout.specs.Goals.{IsNoMultipleOf8, AllGoalsHold}
 

@@ -1,7 +1,7 @@
 -- The listed goals of an elaborated message are its goals.
-use Rattle.std.proofs.Common.{◌≡◌, refl, sym, ap, subst, ◌∙◌, ℕ, zero, suc, ◌+◌, ◌-◌, ◌<◌, ◌≤◌, arith, List, [], ◌∷◌, ◌++◌, length, take, Bool, true, false, if◌then◌else◌, cond, Option, Some, None, ◌⊎◌, inl, inr}
+use Rattle.std.proofs.Common.{◌≡◌, refl, sym, ap, subst, ◌∙◌, ℕ, zero, suc, ◌+◌, ◌-◌, ◌<◌, arith, List, [], ◌∷◌, ◌++◌, length, take, Bool, true, false, if◌then◌else◌, cond, Option, Some, None, ◌⊎◌, inl, inr}
 use Rattle.std.specs.Prelude.{slice_get, filter, count_by}
-use Rattle.std.specs.List.{flat_map, fold}
+use Rattle.std.specs.List.{flat_map}
 use Rattle.std.proofs.lemmas.Bool.Decides.{Decides-eqb}
 use Rattle.rx_types.specs.Domain.{Domain}
 use Rattle.rx_graph.specs.declared.message.Node.{Node}
@@ -17,7 +17,7 @@ use Rattle.rx_layout.specs.Goals
 use Rattle.rx_layout.specs.Goals.{IsGoal}
 use Rattle.rx_layout.specs.Listed
 use Rattle.rx_layout.specs.Listed.{nodes_from, nodes_of, links_at, is_absent, is_present, LinkCheck, Taken, Position, Grid, Overlay, Cover, Whole, goal_of, Among}
-use Rattle.rx_layout.proofs.Numbered.{numbered_found, leaves, counted, counted_from}
+use Rattle.rx_layout.proofs.Numbered.{numbered_found, leaves, counted_from}
 
 -- ---- lists behind one another
 

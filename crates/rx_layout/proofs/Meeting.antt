@@ -1,5 +1,5 @@
 -- From a point of a goal's query to the goal, and back, whatever the goal asks.
-use Rattle.std.proofs.Common.{◌≡◌, refl, sym, ap, subst, ◌∙◌, ℕ, ◌+◌, ◌≤◌, arith, List, [], ◌∷◌, length, true, ℤ, pos, Option}
+use Rattle.std.proofs.Common.{◌≡◌, sym, ap, subst, ◌∙◌, ℕ, ◌+◌, ◌≤◌, arith, List, [], ◌∷◌, length, true, ℤ, pos, Option}
 use Rattle.rx_types.specs.Tree.{Tree}
 use Rattle.rx_types.specs.Domain.{Domain}
 use Rattle.rx_types.specs.Environment.{Placed, in_message}

@@ -1,11 +1,11 @@
 -- The fields of a partial path lie in the message, so the last end does.
-use Rattle.std.proofs.Common.{◌≡◌, refl, ap, subst, ◌∙◌, ℕ, ◌*◌, ◌<◌, ◌^◌, arith, List, [], ◌∷◌, ◌++◌, ℤ, pos, ◌+ℤ◌, ◌≤ℤ◌, Option, Some, None}
+use Rattle.std.proofs.Common.{ℕ, ◌*◌, arith, List, [], ◌∷◌, ◌++◌, pos, ◌+ℤ◌, ◌≤ℤ◌}
 use Rattle.std.specs.List.{AllByRecursion}
 use Rattle.std.proofs.lemmas.Int.{ints}
 use Rattle.rx_types.specs.Domain.{Domain}
 use Rattle.rx_types.specs.Environment.{Placed, in_message, end_of}
 use Rattle.rx_graph.specs.declared.message.Node.{Node}
-use Rattle.rx_graph.specs.declared.message.Node.TheVariants.{Start, At}
+use Rattle.rx_graph.specs.declared.message.Node.TheVariants.{At}
 use Rattle.rx_graph.specs.Graph.{Graph}
 use Rattle.rx_graph.specs.Paths.{LiesWithin, Leads}
 

@@ -1,5 +1,5 @@
 -- The queries of Position, Overlay and Grid.
-use Rattle.std.proofs.Common.{◌≡◌, refl, sym, ap, subst, ◌∙◌, ℕ, ◌+◌, ◌*◌, ◌<◌, ◌^◌, arith, List, [], ◌∷◌, ◌++◌, length, Bool, true, get_or, ℤ, pos, ◌<ℤ◌, ◌≤ℤ◌, ◌-ℤ◌, Option, Some, None, ◌⊎◌, inl, inr, append_assoc}
+use Rattle.std.proofs.Common.{◌≡◌, refl, sym, ap, subst, ◌∙◌, ℕ, ◌+◌, ◌*◌, ◌<◌, ◌^◌, arith, List, [], ◌∷◌, ◌++◌, true, get_or, ℤ, pos, ◌≤ℤ◌, ◌-ℤ◌, Option, Some, None, ◌⊎◌, inl, inr, append_assoc}
 use Rattle.std.specs.Prelude.{slice_get}
 use Rattle.std.specs.Int.{int_div_euclid}
 use Rattle.std.proofs.lemmas.Int.{ints}
@@ -17,15 +17,14 @@ use Rattle.rx_graph.proofs.Bounded.{stays_within}
 use Rattle.rx_graph.proofs.Unique.{at_field}
 use Rattle.rx_forms.specs.declared.linear.Linear.{Linear}
 use Rattle.rx_forms.specs.declared.linear.Form.{Form}
-use Rattle.rx_forms.specs.Linear.{meets, not_below_zero}
-use Rattle.rx_forms.specs.Normal.{Formed, formed_of, divisions_in}
+use Rattle.rx_forms.specs.Linear.{meets}
+use Rattle.rx_forms.specs.Normal.{formed_of, divisions_in}
 use Rattle.rx_forms.specs.Laws.{fields_on}
 use Rattle.rx_forms.specs.Steps
 use Rattle.rx_forms.specs.Steps.{Step, AreFormable, AreNarrow, first_form, size_form, size_aspect, divisions_in_any, target_field}
 use Rattle.rx_forms.proofs.Quotients.{of_parts}
 use Rattle.rx_forms.proofs.Extension.{at_end, two}
 use Rattle.rx_forms.proofs.Matching.{represents}
-use Rattle.rx_layout.specs.declared.goal.Goal.{Goal}
 use Rattle.rx_layout.specs.declared.goal.Goal.TheVariants.{Position, Overlay, Grid}
 use Rattle.rx_layout.specs.Goals
 use Rattle.rx_layout.specs.Goals.{source, IsMet, MetBy, IsGoal}

@@ -4,21 +4,18 @@ use Rattle.std.specs.List.{list_all, list_any}
 use Rattle.std.proofs.lemmas.Int.{ints}
 use Rattle.std.proofs.lemmas.List.Folds.{list_all-append}
 use Rattle.std.proofs.Math.IntN.{zero-*ℤ}
-use Rattle.rx_linear.specs.declared.row.Row.{Row}
 use Rattle.rx_model.specs.Sums.{product_sum}
 use Rattle.rx_linear.specs.Joining.{holds, all_hold}
 use Rattle.rx_proof.specs.declared.query.Query.{Query}
-use Rattle.rx_proof.specs.declared.query.Query.TheOpen.{Query-F}
-use Rattle.rx_proof.specs.declared.query.Query.TheViews.{roll-Query}
 use Rattle.rx_proof.specs.declared.query.Query.TheFolds.{fold-Query, fold-roll-Query}
 use Rattle.rx_proof.specs.Queries.{satisfied, satisfied_step, each_satisfied}
 use Rattle.rx_forms.specs.declared.linear.Linear.{Linear}
 use Rattle.rx_forms.specs.declared.linear.Form.{Form}
 use Rattle.rx_forms.specs.declared.linear.Form.TheOpen.{Form-F}
-use Rattle.rx_forms.specs.declared.linear.Form.TheFolds.{fold-Form, ind-Form, map-Form, fold-roll-Form}
+use Rattle.rx_forms.specs.declared.linear.Form.TheFolds.{ind-Form, map-Form, fold-roll-Form}
 use Rattle.rx_forms.specs.Linear.{at, meets, meets_step}
 use Rattle.rx_layout.specs.declared.parts.Parts.{Parts}
-use Rattle.rx_layout.specs.Parts.{nothing, padded, row_of, false_row, query_of, all_of, one_of, parts_step, parts_of}
+use Rattle.rx_layout.specs.Parts.{row_of, false_row, query_of, all_of, one_of, parts_step, parts_of}
 
 -- whether the point meets all the parts
 abbrev pub meets_parts : List ℤ → Parts → Bool

@@ -1,5 +1,5 @@
 -- The queries of Exclusive, Taken and Reached.
-use Rattle.std.proofs.Common.{◌≡◌, refl, ap, ◌∙◌, ℕ, List, [], ◌∷◌, ℤ, Option, None}
+use Rattle.std.proofs.Common.{refl, ap, ◌∙◌, ℕ, List, [], ◌∷◌, ℤ, Option, None}
 use Rattle.rx_types.specs.Domain.{Domain}
 use Rattle.rx_types.specs.Environment.{Placed}
 use Rattle.rx_graph.specs.declared.message.Node.{Node}
@@ -11,7 +11,7 @@ use Rattle.rx_forms.specs.Laws.{fields_on}
 use Rattle.rx_forms.specs.Steps
 use Rattle.rx_forms.specs.Steps.{AreFormable, AreNarrow}
 use Rattle.rx_layout.specs.declared.goal.Goal.TheVariants.{Exclusive, Taken, Reached}
-use Rattle.rx_layout.specs.Goals.{source, IsMet, MetBy, IsGoal}
+use Rattle.rx_layout.specs.Goals.{MetBy, IsGoal}
 use Rattle.rx_layout.specs.QueryOf
 use Rattle.rx_layout.specs.Laws
 use Rattle.rx_layout.specs.Laws.{IsPoint}

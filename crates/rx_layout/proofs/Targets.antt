@@ -1,5 +1,5 @@
 -- The First and the Size of a link's target at a point that solves their divisions, and their quotients by 8.
-use Rattle.std.proofs.Common.{◌≡◌, refl, sym, ap, subst, ◌∙◌, ℕ, ◌+◌, ◌*◌, ◌<◌, ◌^◌, arith, List, [], ◌∷◌, ◌++◌, length, Bool, true, get_or, ℤ, pos, negsuc, neg_ℤ, ◌+ℤ◌, ◌-ℤ◌, ◌*ℤ◌, ◌≤ℤ◌, int_le, Option, Some, None, ◌⊎◌, inl, inr}
+use Rattle.std.proofs.Common.{◌≡◌, refl, ap, ◌∙◌, ℕ, ◌+◌, ◌*◌, arith, List, true, get_or, ℤ, pos, negsuc, neg_ℤ, ◌+ℤ◌, ◌-ℤ◌, ◌*ℤ◌, ◌≤ℤ◌, Option, Some, None, ◌⊎◌, inl, inr}
 use Rattle.std.specs.Int.{int_div_euclid}
 use Rattle.std.proofs.lemmas.Int.{ints}
 use Rattle.rx_linear.proofs.Joining.{and_true}
@@ -7,15 +7,14 @@ use Rattle.rx_types.specs.declared.interval.Interval.{Interval}
 use Rattle.rx_types.specs.Tree.{Tree}
 use Rattle.rx_types.specs.Domain.{Domain, size_of}
 use Rattle.rx_types.specs.Environment.{Placed, Environment, in_message, end_of, bits_of}
-use Rattle.rx_types.specs.Narrow.{IsIn, from_to, places_in_bits, StaysWithin, IsNarrow}
+use Rattle.rx_types.specs.Narrow.{IsIn, StaysWithin}
 use Rattle.rx_types.proofs.Within.{quotient_up, value_in}
 use Rattle.rx_graph.specs.declared.message.Node.{Node}
 use Rattle.rx_graph.specs.declared.message.Node.TheVariants.{At}
 use Rattle.rx_graph.specs.Graph.{Arrow, Graph, type_of}
 use Rattle.rx_graph.specs.Paths.{first_of, size_of_target, value_or}
-use Rattle.rx_graph.specs.Checks.{IsMultipleOf8}
 use Rattle.rx_forms.specs.declared.linear.Linear.{Linear}
-use Rattle.rx_forms.specs.Linear.{at, term, minus, constant, meets, not_below_zero}
+use Rattle.rx_forms.specs.Linear.{at, term, minus, meets, not_below_zero}
 use Rattle.rx_forms.specs.Normal.{Formed, bits, divisions_in}
 use Rattle.rx_forms.specs.Points.{Represents, SolvesAny, Matches}
 use Rattle.rx_forms.specs.Steps.{Step, IsNumericIfAny, IsNarrowIfAny, first_form, size_form, size_aspect, end_form, first_division, size_division, target_field, divisions_in_any}
@@ -23,7 +22,6 @@ use Rattle.rx_forms.proofs.Sums.{at_minus, at_term, at_constant}
 use Rattle.rx_forms.proofs.Quotients.{to_le}
 use Rattle.rx_forms.proofs.Matching.{value_if_any, end_matches, bits_value}
 use Rattle.rx_layout.specs.Goals.{IsNoMultipleOf8}
-use Rattle.rx_layout.specs.QueryOf
 use Rattle.rx_layout.specs.QueryOf.{unit_rows, interval_or, rest_interval, no_multiple, grid_formula}
 use Rattle.rx_layout.proofs.Formulas.{first_meets, second_meets, is_broken}
 

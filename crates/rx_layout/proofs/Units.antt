@@ -1,5 +1,5 @@
 -- Each variable of a query has a row that bounds it from below and one that bounds it from above.
-use Rattle.std.proofs.Common.{◌≡◌, refl, sym, ap, subst, ◌∙◌, ℕ, zero, suc, ◌+◌, ◌-◌, ◌<◌, ◌≤◌, ◌^◌, arith, List, [], ◌∷◌, ◌++◌, map, length, replicate, get_or, Bool, true, false, ◌&&◌, ◌||◌, if◌then◌else◌, ℤ, pos, negsuc, neg_ℤ, Option, Some, None, ◌⊎◌, inl, inr}
+use Rattle.std.proofs.Common.{◌≡◌, refl, sym, ap, subst, ◌∙◌, ℕ, zero, suc, ◌+◌, ◌-◌, ◌<◌, ◌≤◌, ◌^◌, arith, List, [], ◌∷◌, ◌++◌, map, length, replicate, get_or, Bool, true, false, ◌&&◌, ◌||◌, if◌then◌else◌, ℤ, pos, negsuc, neg_ℤ, Option, Some, None, inl, inr}
 use Rattle.std.specs.Prelude.{slice_get, nat_lt}
 use Rattle.std.specs.List.{list_any}
 use Rattle.std.specs.Ordering.{int_eq}
@@ -7,7 +7,7 @@ use Rattle.std.specs.Cmp.Lexicographic.{pointwise}
 use Rattle.std.specs.Int.{int_div_euclid}
 use Rattle.std.proofs.lemmas.Bool.Decides.{Decides-int_eq}
 use Rattle.rx_linear.specs.declared.row.Row.{Row}
-use Rattle.rx_linear.specs.Units.{coefficient, unit, is_unit_row}
+use Rattle.rx_linear.specs.Units.{unit, is_unit_row}
 use Rattle.rx_linear.proofs.Joining.{and_true}
 use Rattle.rx_types.specs.declared.expr.Operator.TheVariants as op
 use Rattle.rx_types.specs.declared.interval.Interval.{Interval}
@@ -23,11 +23,11 @@ use Rattle.rx_graph.specs.declared.message.Node.{Node}
 use Rattle.rx_graph.specs.declared.message.Node.TheVariants.{Start, At, Null}
 use Rattle.rx_graph.specs.Graph.{Arrow, Graph, type_of, scalar_of, limit_of, overlay_of}
 use Rattle.rx_graph.specs.Elaborated.{IsElaborated, IsFieldType}
-use Rattle.rx_proof.specs.declared.query.Query.{Query, out-Query}
+use Rattle.rx_proof.specs.declared.query.Query.{out-Query}
 use Rattle.rx_proof.specs.declared.query.Query.TheOpen.{Query-F}
-use Rattle.rx_proof.specs.declared.query.Query.TheFolds.{fold-Query, fold_out-Query, fold-roll-Query}
+use Rattle.rx_proof.specs.declared.query.Query.TheFolds.{fold_out-Query, fold-roll-Query}
 use Rattle.rx_forms.specs.declared.linear.Linear.{Linear}
-use Rattle.rx_forms.specs.declared.linear.Form.{Form, AtLeast, All, Any}
+use Rattle.rx_forms.specs.declared.linear.Form.{Form, AtLeast, All}
 use Rattle.rx_forms.specs.Linear.{term}
 use Rattle.rx_forms.specs.Normal.{Formed, divisions_in, linear}
 use Rattle.rx_forms.specs.Divisions.{divisions, division_rows}

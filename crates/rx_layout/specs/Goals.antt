@@ -5,7 +5,7 @@
 --   MetBy goal total path fields    the path is partial, and the goal is met at its end
 --   GoalHolds goal         the check holds
 --   IsGoal goal            the message has this check
-use Rattle.std.specs.Prelude.{◌≡◌, ◌≢◌, ℕ, ◌<◌, ℤ, pos, ◌<ℤ◌, Bool, true, false, List, Option, None, length, ◌⊎◌}
+use Rattle.std.specs.Prelude.{◌≡◌, ◌≢◌, ℕ, ◌<◌, ℤ, pos, ◌<ℤ◌, Bool, true, false, List, None, length, ◌⊎◌}
 use Rattle.rx_types.specs.Domain.{Domain}
 use Rattle.rx_types.specs.Environment.{Placed, Environment, in_message, place_of, end_of}
 use Rattle.rx_graph.specs.declared.message.Node.{Node}

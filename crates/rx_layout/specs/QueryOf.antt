@@ -5,7 +5,7 @@
 --   position_formula, grid_formula, overlay_formula, cover_formula, null_formula, whole_formula    what breaks a goal
 --   asked_by goal               what a goal asks
 --   query_form, query_for       the fact and the query of a path and a goal
-use Rattle.std.specs.Prelude.{List, [], ◌∷◌, ◌++◌, map, filter, ℕ, ◌+◌, ◌-◌, ◌^◌, pos, negsuc, neg_ℤ, true, Option, Some, None, slice_get}
+use Rattle.std.specs.Prelude.{List, [], ◌∷◌, ◌++◌, map, filter, ℕ, ◌+◌, ◌-◌, ◌^◌, pos, negsuc, neg_ℤ, Option, Some, None, slice_get}
 use Rattle.std.specs.Int.{int_div_euclid}
 use Rattle.rx_types.specs.declared.interval.Interval.{Interval}
 use Rattle.rx_types.specs.Tree.{Tree}

@@ -2,7 +2,7 @@ use Rattle.std.proofs.Common.{arith, ◌≡◌, ◌∷◌, [], sym, ap, ◌∙�
 use Rattle.rx_linear.specs.declared.row.Row.{Row}
 use Rattle.rx_forms.specs.declared.linear.Form.{Form}
 use Rattle.rx_layout.specs.declared.parts.Parts.{Parts}
-use Rattle.rx_layout.specs.Parts.{row_of, parts_of, all_of, one_of}
+use Rattle.rx_layout.specs.Parts.{parts_of, all_of, one_of}
 use Rattle.rx_layout.proofs.Gathered.{parts_at_least, parts_all, parts_any, sums_fit, alls_fit, anys_fit, item_fits, parts_within, if_ok, count, total, count_all, count_any, item_counts}
 use Rattle.rx_layout.proofs.parts.+parts.Goals as goal
 
