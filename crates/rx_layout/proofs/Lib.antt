@@ -10,6 +10,7 @@ pub mod Gathered
 pub mod Holding
 pub mod Units
 pub mod Whole
+pub mod Joining
 pub mod Listing
 pub mod Lists
 pub mod Meeting

@@ -4,10 +4,11 @@
 --   PointsMeetGoals    a point of a query has the numbers of a partial path that meets the goal
 --   GoalsHavePoints    and such numbers have a point
 --   QueriesAreEven     queries are even
---   QueriesAreBounded  each variable of a query has a row that bounds it from below and one that bounds it from above
+--   QueriesAreBounded  when the rows of a query are joined, each variable has one that bounds it from below and one that bounds it
+--                      from above
 --   ListsGoals         the goals of a message are those that are listed
 --   GoalsMakeSound     where all goals hold, all checks do
-use Rattle.std.specs.Prelude.{◌≡◌, ◌↔◌, ◌<◌, ℕ, List, ◌∷◌, ℤ, pos, negsuc, Bool, true, ◌&&◌, length, take}
+use Rattle.std.specs.Prelude.{◌≡◌, ◌↔◌, ◌<◌, ℕ, List, [], ◌∷◌, ℤ, pos, negsuc, Bool, true, ◌&&◌, length, take}
 use Rattle.std.specs.List.{list_any}
 use Rattle.rx_types.specs.Domain.{Domain}
 use Rattle.rx_types.specs.Environment.{Placed}
@@ -18,6 +19,7 @@ use Rattle.rx_graph.specs.Checks.{AllHold}
 use Rattle.rx_forms.specs.Carried.{numbers_of}
 use Rattle.rx_linear.specs.declared.row.Row.{Row}
 use Rattle.rx_linear.specs.Units.{is_unit_row}
+use Rattle.rx_linear.specs.Joining.{joined}
 use Rattle.rx_proof.specs.declared.query.Query.{Query, out-Query}
 use Rattle.rx_proof.specs.Queries.{satisfied, IsEven}
 use Rattle.rx_layout.specs.declared.goal.Goal.{Goal}
@@ -55,7 +57,7 @@ module _ (domains : List Domain) (m : Graph) where
 
   abbrev pub QueriesAreBounded : Type 0
   QueriesAreBounded =
-      (goal : Goal) (path : List ℕ) (x : ℕ) → x < (out-Query (query_for domains m goal path)).system.variables → has_unit_rows x (out-Query (query_for domains m goal path)).system.rows ≡ true
+      (goal : Goal) (path : List ℕ) (x : ℕ) → x < (out-Query (query_for domains m goal path)).system.variables → has_unit_rows x (joined [] (out-Query (query_for domains m goal path)).system.rows) ≡ true
 
   abbrev pub ListsGoals : Type 0
   ListsGoals = (goal : Goal) → IsGoal domains m goal ↔ Among goal (all_goals domains m)

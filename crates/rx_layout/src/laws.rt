@@ -27,7 +27,8 @@ pub fn queries_are_even(spec: &Spec, message: &Message)
     ensures { QueriesAreEven (domains_of spec.now) (graph_of message.now) }
 {}
 
-/// Each variable of a query of a path and a goal has a row that bounds it from below and one that bounds it from above.
+/// When the rows of a query of a path and a goal are joined, each variable has one that bounds it from below and one that bounds it
+/// from above.
 pub fn queries_are_bounded(spec: &Spec, message: &Message)
     requires elaborated { IsElaborated (domains_of spec.now) (graph_of message.now) }
     ensures { QueriesAreBounded (domains_of spec.now) (graph_of message.now) }
