@@ -1,0 +1,7 @@
+pub mod Fitting
+pub mod Goals
+pub mod Laws
+pub mod Listed
+pub mod Parts
+pub mod QueryOf
+pub mod Types
