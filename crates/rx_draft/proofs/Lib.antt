@@ -1,0 +1,10 @@
+pub mod Adding
+pub mod ContentBits
+pub mod Ends
+pub mod Keeping
+pub mod Numbers
+pub mod Overlays
+pub mod SameBytes
+pub mod Settled
+pub mod Taking
+pub mod Whole

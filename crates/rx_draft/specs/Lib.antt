@@ -1,0 +1,4 @@
+pub mod Drafts
+pub mod Puts
+pub mod Seals
+pub mod Steps
