@@ -7,6 +7,7 @@ pub mod Laws
 pub mod Limits
 pub mod Linear
 pub mod Normal
+pub mod PathLimit
 pub mod Points
 pub mod Steps
 pub mod Worked

@@ -16,6 +16,7 @@ mod laws;
 mod limit;
 mod linear;
 mod number;
+mod within;
 mod work;
 
 pub use aspect::{first_form, size_form};
@@ -32,4 +33,5 @@ pub use laws::{
 };
 pub use linear::{Form, Linear};
 pub use number::number_form;
+pub use within::{keeps_limit, limit_is_kept};
 pub use work::Work;

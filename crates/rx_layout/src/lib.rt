@@ -4,7 +4,9 @@
 mod fault;
 mod goal;
 mod laws;
+mod listing;
 mod parts;
+mod querying;
 
 pub use fault::NoMemory;
 pub use goal::Goal;
@@ -12,4 +14,6 @@ pub use laws::{
     goals_are_listed, goals_have_points, goals_make_sound, points_meet_goals, queries_are_bounded,
     queries_are_even,
 };
+pub use listing::goals;
 pub use parts::{Parts, query_of_form};
+pub use querying::query;

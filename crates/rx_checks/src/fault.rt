@@ -1,0 +1,31 @@
+//! Why a call gave no report.
+
+use std::alloc::{AllocError, AllocFailed};
+
+/// Want of memory.
+#[derive(Clone, Copy, Debug, PartialEq, Eq)]
+pub struct NoMemory;
+
+impl From<AllocError> for NoMemory {
+    fn from(_: AllocError) -> Self {
+        NoMemory
+    }
+}
+
+impl<T: Drop> From<AllocFailed<T>> for NoMemory {
+    fn from(_: AllocFailed<T>) -> Self {
+        NoMemory
+    }
+}
+
+impl From<rx_layout::NoMemory> for NoMemory {
+    fn from(_: rx_layout::NoMemory) -> Self {
+        NoMemory
+    }
+}
+
+impl From<rx_prover::NoMemory> for NoMemory {
+    fn from(_: rx_prover::NoMemory) -> Self {
+        NoMemory
+    }
+}
