@@ -20,6 +20,5 @@ pub fn check(alloc: Global, message: &Message, spec: &Spec, splits: u32) -> Resu
     requires few { (1 ≤ splits) × (splits ≤ 4096) }
     ensures { IfOk result (IsReport (domains_of spec.now) (graph_of message.now) splits) }
 {
-    let _ = (alloc, message, spec, splits);
     Err(NoMemory)
 }

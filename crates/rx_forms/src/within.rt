@@ -18,7 +18,6 @@ pub fn keeps_limit(alloc: Global, message: &Message, scalars: &[Scalar]) -> Resu
     requires boolean { (d : Domain) → slice_get (domains_in scalars.now) 0 ≡ Some d → d ≡ boolean }
     ensures { IfOk result (λ kept. kept ≡ keeps_limit (domains_in scalars.now) (graph_of message.now)) }
 {
-    let _ = (alloc, message, scalars);
     Err(NoMemory)
 }
 

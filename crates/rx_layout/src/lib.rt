@@ -1,19 +1,19 @@
 //! Queries of a path and a check: rows and disjunctions whose points are the numbers of a partial path.
 #![tactic(auto)]
 
+mod checklist;
 mod fault;
 mod goal;
 mod laws;
-mod listing;
 mod parts;
 mod querying;
 
+pub use checklist::goals;
 pub use fault::NoMemory;
 pub use goal::Goal;
 pub use laws::{
     goals_are_listed, goals_have_points, goals_make_sound, points_meet_goals, queries_are_bounded,
     queries_are_even,
 };
-pub use listing::goals;
 pub use parts::{Parts, query_of_form};
 pub use querying::query;

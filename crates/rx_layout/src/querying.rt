@@ -32,6 +32,5 @@ pub fn query(
     requires path { IsPath (graph_of message.now) Start path.now (source goal.now) }
     ensures { IfOk result (λ query. query ≡ query_for (domains_of spec.now) (graph_of message.now) goal.now path.now) }
 {
-    let _ = (alloc, message, spec, path, goal);
     Err(NoMemory)
 }

@@ -15,6 +15,5 @@ pub fn goals(alloc: Global, message: &Message, spec: &Spec) -> Result<Vec<Goal>,
     requires { IsElaborated (domains_of spec.now) (graph_of message.now) }
     ensures { IfOk result (λ goals. goals.items ≡ all_goals (domains_of spec.now) (graph_of message.now)) }
 {
-    let _ = (alloc, message, spec);
     Err(NoMemory)
 }
