@@ -24,11 +24,7 @@ fn is_of(owner: &Name, name: &Name, message: &Message) -> bool
 }
 
 /// The message of a package by its name.
-pub fn find_message<'s>(
-    messages: &'s [Message],
-    owner: &Name,
-    name: &Name,
-) -> Option<&'s Message>
+pub fn find_message<'s>(messages: &'s [Message], owner: &Name, name: &Name) -> Option<&'s Message>
     ensures some { IfSome result (λ m. message_in owner.now name.now (map graph_of messages.now) ≡ Some (graph_of m.now)) }
     ensures none { IfNone result (message_in owner.now name.now (map graph_of messages.now) ≡ None) }
 {

@@ -300,13 +300,21 @@ fn status_of(answer: &Answer) -> Status
     }
 }
 
-// The text of what the input is.
-fn input_text(alloc: Global, decoding: &Decoding) -> Result<Vec<u8>, NoMemory>
-    ensures { IfOk result (λ text. IsText (Answer.Input decoding.now) text.items) }
+// A text as a line.
+fn as_line(mut text: Vec<u8>) -> Result<Vec<u8>, NoMemory>
+    ensures { IfOk result (λ line. line.items ≡ text.items ++ 10 ∷ []) }
+{
+    put(&mut text, b"\n")?;
+    Ok(text)
+}
+
+// The text of what a buffer is.
+fn input_text(alloc: Global, decoding: Decoding) -> Result<Vec<u8>, NoMemory>
+    ensures { IfOk result (λ text. IsText (Answer.Input decoding) text.items) }
 {
     match decoding {
-        Decoding::Json(json) => line_of(alloc, b"", json, b""),
-        Decoding::Stuck(reason, name) => stuck(alloc, *reason, name),
+        Decoding::Json(json) => as_line(json),
+        Decoding::Stuck(reason, name) => stuck(alloc, reason, &name),
     }
 }
 
@@ -335,11 +343,7 @@ fn key_line(alloc: Global, rule: &str, key: &[u8]) -> Result<Vec<u8>, NoMemory>
 }
 
 // The line of a valuation that does not lead on.
-fn unsatisfied(
-    alloc: Global,
-    name: &Option<Name>,
-    reason: UnfitReason,
-) -> Result<Vec<u8>, NoMemory>
+fn unsatisfied(alloc: Global, name: &Option<Name>, reason: UnfitReason) -> Result<Vec<u8>, NoMemory>
     ensures { IfOk result (λ text. text.items ≡ encoding_text (Encoding.Unsatisfied name.now reason)) }
 {
     let mut told = name_text(alloc, name)?;
@@ -348,34 +352,27 @@ fn unsatisfied(
 }
 
 // The text of what a JSON text is.
-fn output_text(alloc: Global, encoding: &Encoding) -> Result<Vec<u8>, NoMemory>
-    ensures { IfOk result (λ text. text.items ≡ encoding_text encoding.now) }
+fn output_text(alloc: Global, encoding: Encoding) -> Result<Vec<u8>, NoMemory>
+    ensures { IfOk result (λ text. text.items ≡ encoding_text encoding) }
 {
     match encoding {
-        Encoding::Bytes(bytes) => copy(alloc, bytes),
+        Encoding::Bytes(bytes) => Ok(bytes),
         Encoding::NotJson => line_of(alloc, b"refused: 30 NotJson", b"", b""),
         Encoding::NotObject => line_of(alloc, b"refused: 31 NotObject", b"", b""),
-        Encoding::UnknownField(key) => key_line(alloc, "32 UnknownField", key),
-        Encoding::BadValue(key) => key_line(alloc, "33 BadValue", key),
-        Encoding::Duplicate(key) => key_line(alloc, "34 Duplicate", key),
-        Encoding::Unsatisfied(name, reason) => unsatisfied(alloc, name, *reason),
+        Encoding::UnknownField(key) => key_line(alloc, "32 UnknownField", &key),
+        Encoding::BadValue(key) => key_line(alloc, "33 BadValue", &key),
+        Encoding::Duplicate(key) => key_line(alloc, "34 Duplicate", &key),
+        Encoding::Unsatisfied(name, reason) => unsatisfied(alloc, &name, reason),
         Encoding::Unused(name) => {
-            let name = name_text(alloc, name)?;
+            let name = name_text(alloc, &name)?;
             line_of(alloc, b"refused: 42 Unused", &name, b"")
         }
     }
 }
 
-// The same bytes once more.
-fn copy(alloc: Global, bytes: &[u8]) -> Result<Vec<u8>, NoMemory>
-    ensures { IfOk result (λ text. text.items ≡ bytes.now) }
-{
-    Ok(Vec::from_slice(alloc, bytes)?)
-}
-
 // The text of an answer.
-fn text_of(alloc: Global, answer: &Answer) -> Result<Vec<u8>, NoMemory>
-    ensures { IfOk result (λ text. IsText answer.now text.items) }
+fn text_of(alloc: Global, answer: Answer) -> Result<Vec<u8>, NoMemory>
+    ensures { IfOk result (λ text. IsText answer text.items) }
 {
     match answer {
         Answer::Usage => line_of(
@@ -385,20 +382,20 @@ fn text_of(alloc: Global, answer: &Answer) -> Result<Vec<u8>, NoMemory>
             b"",
         ),
         Answer::ShelfFault => line_of(alloc, b"fault: shelf", b"", b""),
-        Answer::NoPackage(name) => unknown(alloc, name, name),
+        Answer::NoPackage(name) => unknown(alloc, &name, &name),
         Answer::TextLimit(name) => {
-            let file = file_of(alloc, name)?;
+            let file = file_of(alloc, &name)?;
             line_of(alloc, b"limit: text ", &file, b"")
         }
-        Answer::Refused(name, refusal) => refused(alloc, name, refusal),
+        Answer::Refused(name, refusal) => refused(alloc, &name, &refusal),
         Answer::PackageLimit => line_of(alloc, b"limit: packages", b"", b""),
         Answer::Unserved(name, unserved) => {
-            unsupported(alloc, name, unserved.place, unserved.form.word())
+            unsupported(alloc, &name, unserved.place, unserved.form.word())
         }
-        Answer::Broken(name, breach) => broken(alloc, name, breach),
-        Answer::NoMessage(name, message) => unknown(alloc, name, message),
-        Answer::Checked(reported) => copy(alloc, &reported.text),
-        Answer::Rejected(reported) => copy(alloc, &reported.text),
+        Answer::Broken(name, breach) => broken(alloc, &name, &breach),
+        Answer::NoMessage(name, message) => unknown(alloc, &name, &message),
+        Answer::Checked(reported) => Ok(reported.text),
+        Answer::Rejected(reported) => Ok(reported.text),
         Answer::SourceFault => line_of(alloc, b"fault: source", b"", b""),
         Answer::InputLimit => line_of(alloc, b"limit: input", b"", b""),
         Answer::Input(decoding) => input_text(alloc, decoding),
@@ -407,14 +404,15 @@ fn text_of(alloc: Global, answer: &Answer) -> Result<Vec<u8>, NoMemory>
 }
 
 /// Writes the text of an answer.
-pub fn print<O: Sink>(alloc: Global, answer: &Answer, out: &mut O) -> Status
-    ensures written { (written : List ℕ) × Appends (O.written out.old) (O.written out.new) written × Prints answer.now result written }
+pub fn print<O: Sink>(alloc: Global, answer: Answer, out: &mut O) -> Status
+    ensures written { (written : List ℕ) × Appends (O.written out.old) (O.written out.new) written × Prints answer result written }
     ensures cause { result ≡ Status.SinkFault → HasRisen (O.faults out.old) (O.faults out.new) }
-    ensures status { IsShown answer.now result }
+    ensures status { IsShown answer result }
 {
+    let status = status_of(&answer);
     match text_of(alloc, answer) {
         Ok(text) => match write_all(out, &text) {
-            Ok(()) => status_of(answer),
+            Ok(()) => status,
             Err(_) => Status::SinkFault,
         },
         Err(NoMemory) => Status::NoMemory,

@@ -110,7 +110,7 @@ pub fn run<H: Shelf, I: Source, O: Sink>(
     ensures untouched { HaveNoInput (map string_bytes words.now) → input.new ≡ input.old }
 {
     match answer(alloc, words, shelf, input) {
-        Ok(answer) => print(alloc, &answer, out),
+        Ok(answer) => print(alloc, answer, out),
         Err(NoMemory) => Status::NoMemory,
     }
 }

@@ -45,17 +45,33 @@ fn ask_by(alloc: Global, request: Request<'_>) -> Result<Option<Ask>, NoMemory>
     match request.command {
         Command::Check { package } => {
             let name = name_of(alloc, package)?;
-            Ok(Some(Ask { name, does: Does::Checks, splits }))
+            Ok(Some(Ask {
+                name,
+                does: Does::Checks,
+                splits,
+            }))
         }
-        Command::Decode { package, message, deep: None } => {
+        Command::Decode {
+            package,
+            message,
+            deep: None,
+        } => {
             let name = name_of(alloc, package)?;
             let message = name_of(alloc, message)?;
-            Ok(Some(Ask { name, does: Does::Decodes(message), splits }))
+            Ok(Some(Ask {
+                name,
+                does: Does::Decodes(message),
+                splits,
+            }))
         }
         Command::Encode { package, message } => {
             let name = name_of(alloc, package)?;
             let message = name_of(alloc, message)?;
-            Ok(Some(Ask { name, does: Does::Encodes(message), splits }))
+            Ok(Some(Ask {
+                name,
+                does: Does::Encodes(message),
+                splits,
+            }))
         }
         Command::Decode { .. } | Command::Run { .. } | Command::Load { .. } => Ok(None),
     }
