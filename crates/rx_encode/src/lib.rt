@@ -4,9 +4,9 @@
 mod encoding;
 mod fault;
 mod keys;
-mod laws;
+
 
 pub use encoding::{Encoded, encode};
 pub use fault::NoMemory;
 pub use keys::key_text;
-pub use laws::one_text_answer;
+

@@ -1,28 +1,29 @@
 -- From what was found to the answer, over plain texts and input.
-use Rattle.std.proofs.Common.{◌≡◌, ℕ, List, Option, Some, None, IfSome, Result, Ok, Err, IfOk, subst, sym, refl}
+use Rattle.std.proofs.Common.{◌≡◌, ℕ, ◌∷◌, [], List, Option, Some, None, IfSome, Result, Ok, Err, IfOk, subst, sym, refl}
 use Rattle.std.specs.Prelude.{slice_get}
 use Rattle.rx_io.specs.Shelf.{Texts}
-use Rattle.rx_syntax.specs.declared.token.Place.{Place}
-use Rattle.rx_syntax.specs.declared.tree.PackageTree.{PackageTree}
 use Rattle.rx_types.specs.Domain.{Domain}
 use Rattle.rx_graph.specs.declared.spec.Spec.{Spec}
-use Rattle.rx_graph.specs.Graph.{Arrow, Graph, Specified, spec_of, domains_of}
-use Rattle.rx_context.specs.Plain.{HasOneLink, IsPlain}
+use Rattle.rx_graph.specs.Graph.{Graph, Specified, spec_of, domains_of}
 use Rattle.rx_spec.specs.Laws.{domains_in}
+use Rattle.rx_report.specs.Reported.{messages_of, Passes, IsReported, HasOpen, Examines}
+use Rattle.rx_report.specs.declared.reported.Reported.{Reported}
 use Rattle.rx_program.specs.declared.status.Status.{Status}
 use Rattle.rx_program.specs.declared.status.Status.TheVariants.{Done, NotAccepted, Words, Specification, Undecided, InputRefused, SinkFault, Limit, NoMemory}
 use Rattle.rx_program.specs.declared.status.Status.TheVariants.{SourceFault as SourceStatus, ShelfFault as ShelfStatus}
 use Rattle.rx_program.specs.declared.answer.Answer.{Answer}
 use Rattle.rx_program.specs.declared.answer.Answer.TheVariants as answer
-use Rattle.rx_program.specs.declared.words.Operand.{Operand}
+use Rattle.rx_program.specs.declared.words.Ask as code
+use Rattle.rx_program.specs.declared.words.Does as does
+use Rattle.rx_program.specs.declared.words.Does.TheVariants.{Checks, Decodes, Encodes}
 use Rattle.rx_program.specs.declared.closure.Packages.{Packages}
 use Rattle.rx_program.specs.declared.closure.Stop.{Stop}
-use Rattle.rx_program.specs.Words.{IsDecode}
+use Rattle.rx_program.specs.Words.{asked_for, message_asked}
+use Rattle.rx_program.specs.Asked.{ask_of, does_of}
 use Rattle.rx_program.specs.Closure.{IsClosure}
-use Rattle.rx_program.specs.Operand.{IsSecondLink, name_place}
 use Rattle.rx_program.specs.Stop.{Stops}
-use Rattle.rx_program.specs.Input.{IsReadAs}
-use Rattle.rx_program.specs.Request.{Request, Finds, Serves, AnswersTo, request_of}
+use Rattle.rx_program.specs.Input.{IsReadAs, IsWrittenAs}
+use Rattle.rx_program.specs.Request.{Request, Means, Finds, Serves, AnswersTo, request_of}
 use Rattle.rx_program.specs.Answers.{Asks, Answers}
 use Rattle.rx_program.specs.Outcome.{Prints, Outcome}
 use Rattle.rx_program.proofs.OperandLemmas.{domains_same}
@@ -38,54 +39,83 @@ pub told_if : {E : Type 0} (input : Option (List ℕ)) (r : Request) (res : Resu
 told_if input r (Err e) answers = tt
 told_if input r (Ok a) answers = told_any input r a answers
 
--- a node has two links
-pub answers_branching : (input : Option (List ℕ)) (r : Request) (s : Specified) (m : Graph) (place : Place) → Finds r s m → ((i : ℕ) × (link : Arrow) × IsSecondLink m i link × (place ≡ link.place))
-    → IfSome input (λ left. AnswersTo r left (answer.Branching r.name place))
-answers_branching input r s m place finds second =
-    told_any input r (answer.Branching r.name place) (λ left. (refl, record { spec = s; graph = m; finds = finds; at = second.0; link = second.1; second = second.2; place_is = second.3 }))
+module _ (ask : code.Ask) (p : Packages) (spec : Spec) (m : Graph) where
+  abbrev request : Request
+  request = request_of (ask_of ask) p
 
--- the message is not plain
-pub answers_unchecked : (input : Option (List ℕ)) (r : Request) (spec : Spec) (m : Graph) (place : Place) → Finds r (spec_of spec) m → HasOneLink m → (IsPlain (domains_of spec) m → ⊥)
-    → ((tree : PackageTree) × (slice_get r.trees 0 ≡ Some tree) × (place ≡ name_place tree r.message)) → IfSome input (λ left. AnswersTo r left (answer.Unchecked r.name place))
-answers_unchecked input r spec m place finds one not_plain there =
-    told_any input r (answer.Unchecked r.name place) (λ left. (
-      refl,
-      record {
+  serves_by : Finds request (spec_of spec) m → Passes (domains_of spec) ask.splits m → Serves request (spec_of spec) m
+  serves_by finds passes = record { finds = finds; passes = subst (λ (ds : List Domain). Passes ds ask.splits m) (sym (domains_same spec)) passes }
+
+  read_answers : (name left : List ℕ) (a : Answer) → does_of ask.does ≡ does_of (Decodes name) → Serves request (spec_of spec) m → IsReadAs (domains_in (spec_of spec)) m left a → AnswersTo request left a
+  read_answers name left answer.Usage is serves read = absurd read
+  read_answers name left answer.ShelfFault is serves read = absurd read
+  read_answers name left (answer.NoPackage n) is serves read = absurd read
+  read_answers name left (answer.TextLimit n) is serves read = absurd read
+  read_answers name left (answer.Refused n x) is serves read = absurd read
+  read_answers name left answer.PackageLimit is serves read = absurd read
+  read_answers name left (answer.Unserved n x) is serves read = absurd read
+  read_answers name left (answer.Broken n x) is serves read = absurd read
+  read_answers name left (answer.NoMessage n x) is serves read = absurd read
+  read_answers name left (answer.Checked r) is serves read = absurd read
+  read_answers name left (answer.Rejected r) is serves read = absurd read
+  read_answers name left answer.SourceFault is serves read = (spec_of spec, m, serves)
+  read_answers name left answer.InputLimit is serves read = (spec_of spec, m, serves, rw (← is) read)
+  read_answers name left (answer.Input decoding) is serves read = (spec_of spec, m, name, serves, is, read.0, read.1)
+  read_answers name left (answer.Output encoding) is serves read = absurd read
+
+  written_answers : (name left : List ℕ) (a : Answer) → does_of ask.does ≡ does_of (Encodes name) → Serves request (spec_of spec) m → IsWrittenAs (domains_in (spec_of spec)) m left a → AnswersTo request left a
+  written_answers name left answer.Usage is serves read = absurd read
+  written_answers name left answer.ShelfFault is serves read = absurd read
+  written_answers name left (answer.NoPackage n) is serves read = absurd read
+  written_answers name left (answer.TextLimit n) is serves read = absurd read
+  written_answers name left (answer.Refused n x) is serves read = absurd read
+  written_answers name left answer.PackageLimit is serves read = absurd read
+  written_answers name left (answer.Unserved n x) is serves read = absurd read
+  written_answers name left (answer.Broken n x) is serves read = absurd read
+  written_answers name left (answer.NoMessage n x) is serves read = absurd read
+  written_answers name left (answer.Checked r) is serves read = absurd read
+  written_answers name left (answer.Rejected r) is serves read = absurd read
+  written_answers name left answer.SourceFault is serves read = (spec_of spec, m, serves)
+  written_answers name left answer.InputLimit is serves read = (spec_of spec, m, serves, rw (← is) read)
+  written_answers name left (answer.Input decoding) is serves read = absurd read
+  written_answers name left (answer.Output encoding) is serves read = (spec_of spec, m, name, serves, is, read.0, read.1)
+
+  -- what the input is of a message, where it is decoded
+  pub answers_read : {E : Type 0} (input : Option (List ℕ)) (name : List ℕ) (res : Result Answer E) → Finds request (spec_of spec) m → Passes (domains_of spec) ask.splits m → does_of ask.does ≡ does_of (Decodes name)
+      → IfOk res (λ a. IfSome input (λ left. IsReadAs (domains_of spec) m left a)) → IfOk res (λ a. IfSome input (λ left. AnswersTo request left a))
+  answers_read input name (Err e) finds passes is read = tt
+  answers_read None name (Ok a) finds passes is read = tt
+  answers_read (Some left) name (Ok a) finds passes is read = read_answers name left a is (serves_by finds passes) (subst (λ (ds : List Domain). IsReadAs ds m left a) (sym (domains_same spec)) read)
+
+  -- and where it is encoded
+  pub answers_written : {E : Type 0} (input : Option (List ℕ)) (name : List ℕ) (res : Result Answer E) → Finds request (spec_of spec) m → Passes (domains_of spec) ask.splits m → does_of ask.does ≡ does_of (Encodes name)
+      → IfOk res (λ a. IfSome input (λ left. IsWrittenAs (domains_of spec) m left a)) → IfOk res (λ a. IfSome input (λ left. AnswersTo request left a))
+  answers_written input name (Err e) finds passes is written = tt
+  answers_written None name (Ok a) finds passes is written = tt
+  answers_written (Some left) name (Ok a) finds passes is written = written_answers name left a is (serves_by finds passes) (subst (λ (ds : List Domain). IsWrittenAs ds m left a) (sym (domains_same spec)) written)
+
+  -- some check of the message did not pass
+  pub answers_rejected : (input : Option (List ℕ)) (reported : Reported) → Finds request (spec_of spec) m → IsReported (domains_of spec) ask.splits (m ∷ []) reported → HasOpen reported
+      → IfSome input (λ left. AnswersTo request left (answer.Rejected reported))
+  answers_rejected input reported finds is open =
+      told_any input request (answer.Rejected reported) (λ left. record {
         spec = spec_of spec;
         graph = m;
         finds = finds;
-        one_link = one;
-        not_plain = λ plain. not_plain (subst (λ (ds : List Domain). IsPlain ds m) (domains_same spec) plain);
-        tree = there.0;
-        first = there.1;
-        place_is = there.2;
-      },
-    ))
+        reported_is = subst (λ (ds : List Domain). IsReported ds ask.splits (m ∷ []) reported) (sym (domains_same spec)) is;
+        open = open;
+      })
 
-input_answers : (r : Request) (s : Specified) (m : Graph) (left : List ℕ) (a : Answer) → Serves r s m → IsReadAs (domains_in s) m left a → AnswersTo r left a
-input_answers r s m left answer.Usage serves read = absurd read
-input_answers r s m left answer.ShelfFault serves read = absurd read
-input_answers r s m left (answer.NoPackage name) serves read = absurd read
-input_answers r s m left (answer.TextLimit name) serves read = absurd read
-input_answers r s m left (answer.Refused name refusal) serves read = absurd read
-input_answers r s m left answer.PackageLimit serves read = absurd read
-input_answers r s m left (answer.Unserved file unserved) serves read = absurd read
-input_answers r s m left (answer.Broken file breach) serves read = absurd read
-input_answers r s m left (answer.NoMessage name message) serves read = absurd read
-input_answers r s m left (answer.Branching name place) serves read = absurd read
-input_answers r s m left (answer.Unchecked name place) serves read = absurd read
-input_answers r s m left answer.SourceFault serves read = (s, m, serves)
-input_answers r s m left answer.InputLimit serves read = ((s, m, serves), read)
-input_answers r s m left (answer.Input decoding) serves read = (s, m, serves, read.0, read.1)
-
--- what the input is of a plain message
-pub answers_input : {E : Type 0} (input : Option (List ℕ)) (r : Request) (spec : Spec) (m : Graph) (res : Result Answer E) → Finds r (spec_of spec) m → IsPlain (domains_of spec) m
-    → IfOk res (λ a. IfSome input (λ left. IsReadAs (domains_of spec) m left a)) → IfOk res (λ a. IfSome input (λ left. AnswersTo r left a))
-answers_input input r spec m (Err e) finds plain read = tt
-answers_input None r spec m (Ok a) finds plain read = tt
-answers_input (Some left) r spec m (Ok a) finds plain read =
-    let serves : Serves r (spec_of spec) m = record { finds = finds; plain = subst (λ (ds : List Domain). IsPlain ds m) (sym (domains_same spec)) plain } in
-    input_answers r (spec_of spec) m left a serves (subst (λ (ds : List Domain). IsReadAs ds m left a) (sym (domains_same spec)) read)
+-- all messages of the package are checked
+pub answers_checked : (input : Option (List ℕ)) (ask : code.Ask) (p : Packages) (spec : Spec) (reported : Reported) → Means (request_of (ask_of ask) p) (spec_of spec) → does_of ask.does ≡ does_of Checks
+    → IsReported (domains_of spec) ask.splits (messages_of ask.name (spec_of spec).messages) reported → IfSome input (λ left. AnswersTo (request_of (ask_of ask) p) left (answer.Checked reported))
+answers_checked input ask p spec reported means asks is =
+    told_any input (request_of (ask_of ask) p) (answer.Checked reported) (λ left. record {
+      spec = spec_of spec;
+      means = means;
+      asked_is = asks;
+      reported_is = subst (λ (ds : List Domain). IsReported ds ask.splits (messages_of ask.name (spec_of spec).messages) reported) (sym (domains_same spec)) is;
+    })
 
 -- ---- answers to words
 
@@ -99,20 +129,21 @@ answers_in words texts left r answer.PackageLimit asks is = absurd is
 answers_in words texts left r (answer.Unserved file unserved) asks is = (r, asks, is)
 answers_in words texts left r (answer.Broken file breach) asks is = (r, asks, is)
 answers_in words texts left r (answer.NoMessage name message) asks is = (r, asks, is)
-answers_in words texts left r (answer.Branching name place) asks is = (r, asks, is)
-answers_in words texts left r (answer.Unchecked name place) asks is = (r, asks, is)
+answers_in words texts left r (answer.Checked reported) asks is = (r, asks, is)
+answers_in words texts left r (answer.Rejected reported) asks is = (r, asks, is)
 answers_in words texts left r answer.SourceFault asks is = (r, asks, is)
 answers_in words texts left r answer.InputLimit asks is = (r, asks, is)
 answers_in words texts left r (answer.Input decoding) asks is = (r, asks, is)
+answers_in words texts left r (answer.Output encoding) asks is = (r, asks, is)
 
 -- the answer of the packages that were read, over what the shelf tells
-pub answered : {E : Type 0} (told : Option Texts) (input : Option (List ℕ)) (o : Operand) (p : Packages) (res : Result Answer E) → IfSome told (λ texts. IsClosure texts o.name p.asked.items p.trees.items)
-    → IfOk res (λ a. IfSome input (λ left. AnswersTo (request_of o p) left a))
-    → IfOk res (λ a. IfSome told (λ texts. IfSome input (λ left. (words : List (List ℕ)) → IsDecode words o.name o.message → Answers words texts left a)))
-answered told input o p (Err e) closure answers = tt
-answered None input o p (Ok a) closure answers = tt
-answered (Some texts) None o p (Ok a) closure answers = tt
-answered (Some texts) (Some left) o p (Ok a) closure answers = λ words is. answers_in words texts left (request_of o p) a (record { words_are = is; closure = closure }) answers
+pub answered : {E : Type 0} (told : Option Texts) (input : Option (List ℕ)) (ask : code.Ask) (p : Packages) (res : Result Answer E) → IfSome told (λ texts. IsClosure texts ask.name p.asked.items p.trees.items)
+    → IfOk res (λ a. IfSome input (λ left. AnswersTo (request_of (ask_of ask) p) left a))
+    → IfOk res (λ a. IfSome told (λ texts. IfSome input (λ left. (words : List (List ℕ)) → asked_for words ≡ Some (ask_of ask) → Answers words texts left a)))
+answered told input ask p (Err e) closure answers = tt
+answered None input ask p (Ok a) closure answers = tt
+answered (Some texts) None ask p (Ok a) closure answers = tt
+answered (Some texts) (Some left) ask p (Ok a) closure answers = λ words is. answers_in words texts left (request_of (ask_of ask) p) a (record { words_are = is; closure = closure }) answers
 
 outcome_in : (words : List (List ℕ)) (texts : Texts) (left : List ℕ) (a : Answer) (status : Status) (written : List ℕ) → Answers words texts left a → Prints a status written → Outcome words texts left status written
 outcome_in words texts left a Done written answers prints = (a, answers, prints)
@@ -136,10 +167,10 @@ outcome_of (Some texts) None words a status W answers prints = tt
 outcome_of (Some texts) (Some left) words a status W answers prints = (prints.0, prints.1, outcome_in words texts left a status prints.0 answers prints.2)
 
 -- the answer where the walk ends, over what the shelf tells
-pub stop_answered : {E : Type 0} (told : Option Texts) (input : Option (List ℕ)) (name message : List ℕ) (stop : Stop) (r : Result Answer E) → IfSome told (λ texts. Stops texts name stop)
-    → IfOk r (λ a. (texts : Texts) (left : List ℕ) (words : List (List ℕ)) → Stops texts name stop → IsDecode words name message → Answers words texts left a)
-    → IfOk r (λ a. IfSome told (λ texts. IfSome input (λ left. (words : List (List ℕ)) → IsDecode words name message → Answers words texts left a)))
-stop_answered told input name message stop (Err e) stops answers = tt
-stop_answered None input name message stop (Ok a) stops answers = tt
-stop_answered (Some texts) None name message stop (Ok a) stops answers = tt
-stop_answered (Some texts) (Some left) name message stop (Ok a) stops answers = λ words is. answers texts left words stops is
+pub stop_answered : {E : Type 0} (told : Option Texts) (input : Option (List ℕ)) (ask : code.Ask) (stop : Stop) (r : Result Answer E) → IfSome told (λ texts. Stops texts ask.name stop)
+    → IfOk r (λ a. (texts : Texts) (left : List ℕ) (words : List (List ℕ)) (other : code.Ask) → Stops texts ask.name stop → asked_for words ≡ Some (ask_of other) → other.name ≡ ask.name → Answers words texts left a)
+    → IfOk r (λ a. IfSome told (λ texts. IfSome input (λ left. (words : List (List ℕ)) → asked_for words ≡ Some (ask_of ask) → Answers words texts left a)))
+stop_answered told input ask stop (Err e) stops answers = tt
+stop_answered None input ask stop (Ok a) stops answers = tt
+stop_answered (Some texts) None ask stop (Ok a) stops answers = tt
+stop_answered (Some texts) (Some left) ask stop (Ok a) stops answers = λ words is. answers texts left words ask stops is refl

@@ -1,37 +1,24 @@
 -- A command that ends before its packages are all read has one answer.
-use Rattle.std.proofs.Common.{◌≡◌, ℕ, ◌⊎◌, inl, inr, true, false, List, [], ◌∷◌, refl, sym, ap, ◌∙◌, subst}
-use Rattle.std.specs.List.{prefix_len}
+use Rattle.std.proofs.Common.{◌≡◌, ℕ, ◌⊎◌, inl, inr, true, false, List, [], ◌∷◌, Option, Some, None, refl, sym, ap, ◌∙◌, subst}
 use Rattle.rx_io.specs.Shelf.{Texts}
 use Rattle.rx_syntax.specs.declared.tree.PackageTree.{PackageTree}
 use Rattle.rx_program.specs.declared.answer.Answer.{Answer}
-use Rattle.rx_program.specs.declared.answer.Answer.TheVariants.{Usage, ShelfFault, NoPackage, TextLimit, Refused, PackageLimit, Unserved, Broken, NoMessage, Branching, Unchecked, SourceFault, InputLimit, Input}
+use Rattle.rx_program.specs.declared.answer.Answer.TheVariants.{Usage, ShelfFault, NoPackage, TextLimit, Refused, PackageLimit, Unserved, Broken, NoMessage, Checked, Rejected, SourceFault, InputLimit, Input, Output}
 use Rattle.rx_program.specs.declared.refusal.Refusal.{Refusal}
-use Rattle.rx_program.specs.Words.{is_no_colon, IsOperand, IsDecode, HaveNoForm}
+use Rattle.rx_program.specs.Words.{Ask, asked_for, HaveNoForm}
 use Rattle.rx_program.specs.Closure.{HasNone, HasLong, HasRefused, IsClosure, Reaches, IsCrowded, begins, withs_of}
 use Rattle.rx_program.specs.Request.{Request}
 use Rattle.rx_program.specs.Answers.{Asks, AskOf, Answers}
 use Rattle.rx_program.specs.Laws.{is_fault, IsEnd}
-use Rattle.rx_program.proofs.WordLemmas.{stands_at}
 use Rattle.rx_program.proofs.OneText.{Met, nothing, too_long, refused, read}
 use Rattle.rx_program.proofs.OneWalk.{Stopped, one_stop, stopped_not_closed}
 
--- two names with the same items
-record SameNames (name other item another : List ℕ) : Type 0 where
-  names : name ≡ other
-  items : item ≡ another
+ask_same : (a b : Ask) → Some a ≡ Some b → a ≡ b
+ask_same a b h = cc
 
-operand_same : (word name item other another : List ℕ) → IsOperand word name item → IsOperand word other another → SameNames name other item another
-operand_same word name item other another is is' =
-    let one = stands_at word name item (prefix_len is_no_colon word) is refl in
-    let two = stands_at word other another (prefix_len is_no_colon word) is' refl in
-    record { names = sym one.front ∙ two.front; items = sym one.back ∙ two.back }
-
--- the words ask for one message
-decode_same : (words : List (List ℕ)) (name message other another : List ℕ) → IsDecode words name message → IsDecode words other another → SameNames name other message another
-decode_same [] name message other another is is' = absurd is
-decode_same (a ∷ []) name message other another is is' = absurd is
-decode_same (a ∷ b ∷ []) name message other another is is' = operand_same b name message other another is.1 is'.1
-decode_same (a ∷ b ∷ c ∷ rest) name message other another is is' = absurd is
+-- the words ask for one thing
+asks_same : (words : List (List ℕ)) (a b : Ask) → asked_for words ≡ Some a → asked_for words ≡ Some b → a ≡ b
+asks_same words a b is is' = ask_same a b (sym is ∙ is')
 
 -- the answer where the walk ends at this package
 abbrev answer_at : List ℕ → Met → Answer
@@ -55,12 +42,12 @@ one_end_of texts name a b is is' =
     is.is ∙ ap (λ n. answer_at n is.stopped.met) same.names ∙ ap (answer_at is'.stopped.name) same.mets ∙ sym is'.is
 
 -- the name that an answer has is the one that the words ask for
-named : (words : List (List ℕ)) (name message n : List ℕ) → IsDecode words name message → AskOf words n → n ≡ name
-named words name message n is asks = (decode_same words n asks.0 name message asks.1 is).names
+named : (words : List (List ℕ)) (ask : Ask) (n : List ℕ) → asked_for words ≡ Some ask → AskOf words n → n ≡ ask.name
+named words ask n is asks = sym asks.2 ∙ ap (λ (a : Ask). a.name) (asks_same words asks.0 ask asks.1 is)
 
-read_of : (words : List (List ℕ)) (texts : Texts) (name message : List ℕ) (r : Request) → IsDecode words name message → Asks words texts r → IsRead texts name
-read_of words texts name message r is asks =
-    (r.asked, r.trees, subst (λ (n : List ℕ). IsClosure texts n r.asked r.trees) (decode_same words r.name r.message name message asks.words_are is).names asks.closure)
+read_of : (words : List (List ℕ)) (texts : Texts) (ask : Ask) (r : Request) → asked_for words ≡ Some ask → Asks words texts r → IsRead texts ask.name
+read_of words texts ask r is asks =
+    (r.asked, r.trees, subst (λ (a : Ask). IsClosure texts a.name r.asked r.trees) (asks_same words r.ask ask asks.words_are is) asks.closure)
 
 -- the walk ends at the package that the words ask for, which is absent
 ends_absent : (texts : Texts) (name : List ℕ) → HasNone texts name → IsOfWalk texts name (NoPackage name)
@@ -97,75 +84,82 @@ ends_crowded texts first c = record {
   is = refl;
 }
 
+-- words of a form have one
+formed : (words : List (List ℕ)) (ask : Ask) → asked_for words ≡ Some ask → HaveNoForm words → ⊥
+formed words ask is none = (let no : Some ask ≡ None = sym is ∙ none in cc)
+
 -- an answer of a command whose packages are not all read is that of an end of the walk
-ended : (words : List (List ℕ)) (texts : Texts) (input name message : List ℕ) (a : Answer) → IsDecode words name message → IsEnd a → Answers words texts input a → IsOfWalk texts name a
-ended words texts input name message Usage is end answers = absurd (answers name message is)
-ended words texts input name message (NoPackage n) is end answers =
-    let same : n ≡ name = named words name message n is answers.0 in
+ended : (words : List (List ℕ)) (texts : Texts) (input : List ℕ) (ask : Ask) (a : Answer) → asked_for words ≡ Some ask → IsEnd a → Answers words texts input a → IsOfWalk texts ask.name a
+ended words texts input ask Usage is end answers = absurd (formed words ask is answers)
+ended words texts input ask (NoPackage n) is end answers =
+    let same : n ≡ ask.name = named words ask n is answers.0 in
     subst (λ (l : List ℕ). IsOfWalk texts l (NoPackage n)) same (ends_absent texts n answers.1)
-ended words texts input name message (TextLimit file) is end answers =
-    let same = named words name message answers.0.0 is answers.0.1 in
-    ends_long texts name file (subst (λ (l : List ℕ). Reaches texts l file) same answers.0.2) answers.1
-ended words texts input name message (Refused file refusal) is end answers =
-    let same = named words name message answers.0.0 is answers.0.1 in
-    ends_refused texts name file refusal (subst (λ (l : List ℕ). Reaches texts l file) same answers.0.2) answers.1
-ended words texts input name message PackageLimit is end answers =
-    let same = named words name message answers.0 is answers.1 in
-    ends_crowded texts name (subst (IsCrowded texts) same answers.2)
-ended words texts input name message ShelfFault is end answers = absurd end
-ended words texts input name message (Unserved file unserved) is end answers = absurd end
-ended words texts input name message (Broken file breach) is end answers = absurd end
-ended words texts input name message (NoMessage n m) is end answers = absurd end
-ended words texts input name message (Branching n place) is end answers = absurd end
-ended words texts input name message (Unchecked n place) is end answers = absurd end
-ended words texts input name message SourceFault is end answers = absurd end
-ended words texts input name message InputLimit is end answers = absurd end
-ended words texts input name message (Input decoding) is end answers = absurd end
+ended words texts input ask (TextLimit file) is end answers =
+    let same = named words ask answers.0.0 is answers.0.1 in
+    ends_long texts ask.name file (subst (λ (l : List ℕ). Reaches texts l file) same answers.0.2) answers.1
+ended words texts input ask (Refused file refusal) is end answers =
+    let same = named words ask answers.0.0 is answers.0.1 in
+    ends_refused texts ask.name file refusal (subst (λ (l : List ℕ). Reaches texts l file) same answers.0.2) answers.1
+ended words texts input ask PackageLimit is end answers =
+    let same = named words ask answers.0 is answers.1 in
+    ends_crowded texts ask.name (subst (IsCrowded texts) same answers.2)
+ended words texts input ask ShelfFault is end answers = absurd end
+ended words texts input ask (Unserved file unserved) is end answers = absurd end
+ended words texts input ask (Broken file breach) is end answers = absurd end
+ended words texts input ask (NoMessage n m) is end answers = absurd end
+ended words texts input ask (Checked reported) is end answers = absurd end
+ended words texts input ask (Rejected reported) is end answers = absurd end
+ended words texts input ask SourceFault is end answers = absurd end
+ended words texts input ask InputLimit is end answers = absurd end
+ended words texts input ask (Input decoding) is end answers = absurd end
+ended words texts input ask (Output encoding) is end answers = absurd end
 
 -- any other answer but a fault is so, too, or all packages are read
-ended_or_read : (words : List (List ℕ)) (texts : Texts) (input name message : List ℕ) (a : Answer) → IsDecode words name message → is_fault a ≡ false → Answers words texts input a → IsOfWalk texts name a ⊎ IsRead texts name
-ended_or_read words texts input name message Usage is sound answers = inl (ended words texts input name message Usage is tt answers)
-ended_or_read words texts input name message (NoPackage n) is sound answers = inl (ended words texts input name message (NoPackage n) is tt answers)
-ended_or_read words texts input name message (TextLimit file) is sound answers = inl (ended words texts input name message (TextLimit file) is tt answers)
-ended_or_read words texts input name message (Refused file refusal) is sound answers = inl (ended words texts input name message (Refused file refusal) is tt answers)
-ended_or_read words texts input name message PackageLimit is sound answers = inl (ended words texts input name message PackageLimit is tt answers)
-ended_or_read words texts input name message ShelfFault is sound answers = absurd (let no : true ≡ false = sound in cc)
-ended_or_read words texts input name message (Unserved file unserved) is sound answers = inr (read_of words texts name message answers.0 is answers.1)
-ended_or_read words texts input name message (Broken file breach) is sound answers = inr (read_of words texts name message answers.0 is answers.1)
-ended_or_read words texts input name message (NoMessage n m) is sound answers = inr (read_of words texts name message answers.0 is answers.1)
-ended_or_read words texts input name message (Branching n place) is sound answers = inr (read_of words texts name message answers.0 is answers.1)
-ended_or_read words texts input name message (Unchecked n place) is sound answers = inr (read_of words texts name message answers.0 is answers.1)
-ended_or_read words texts input name message SourceFault is sound answers = inr (read_of words texts name message answers.0 is answers.1)
-ended_or_read words texts input name message InputLimit is sound answers = inr (read_of words texts name message answers.0 is answers.1)
-ended_or_read words texts input name message (Input decoding) is sound answers = inr (read_of words texts name message answers.0 is answers.1)
+ended_or_read : (words : List (List ℕ)) (texts : Texts) (input : List ℕ) (ask : Ask) (a : Answer) → asked_for words ≡ Some ask → is_fault a ≡ false → Answers words texts input a → IsOfWalk texts ask.name a ⊎ IsRead texts ask.name
+ended_or_read words texts input ask Usage is sound answers = inl (ended words texts input ask Usage is tt answers)
+ended_or_read words texts input ask (NoPackage n) is sound answers = inl (ended words texts input ask (NoPackage n) is tt answers)
+ended_or_read words texts input ask (TextLimit file) is sound answers = inl (ended words texts input ask (TextLimit file) is tt answers)
+ended_or_read words texts input ask (Refused file refusal) is sound answers = inl (ended words texts input ask (Refused file refusal) is tt answers)
+ended_or_read words texts input ask PackageLimit is sound answers = inl (ended words texts input ask PackageLimit is tt answers)
+ended_or_read words texts input ask ShelfFault is sound answers = absurd (let no : true ≡ false = sound in cc)
+ended_or_read words texts input ask (Unserved file unserved) is sound answers = inr (read_of words texts ask answers.0 is answers.1)
+ended_or_read words texts input ask (Broken file breach) is sound answers = inr (read_of words texts ask answers.0 is answers.1)
+ended_or_read words texts input ask (NoMessage n m) is sound answers = inr (read_of words texts ask answers.0 is answers.1)
+ended_or_read words texts input ask (Checked reported) is sound answers = inr (read_of words texts ask answers.0 is answers.1)
+ended_or_read words texts input ask (Rejected reported) is sound answers = inr (read_of words texts ask answers.0 is answers.1)
+ended_or_read words texts input ask SourceFault is sound answers = inr (read_of words texts ask answers.0 is answers.1)
+ended_or_read words texts input ask InputLimit is sound answers = inr (read_of words texts ask answers.0 is answers.1)
+ended_or_read words texts input ask (Input decoding) is sound answers = inr (read_of words texts ask answers.0 is answers.1)
+ended_or_read words texts input ask (Output encoding) is sound answers = inr (read_of words texts ask answers.0 is answers.1)
 
--- the words of an answer ask for a message, or have no form
+-- the words of an answer ask for something, or have no form
 abbrev HaveForm : List (List ℕ) → Type 0
-HaveForm words = (name : List ℕ) × (message : List ℕ) × IsDecode words name message
+HaveForm words = (ask : Ask) × (asked_for words ≡ Some ask)
 
 words_of : (words : List (List ℕ)) (texts : Texts) (input : List ℕ) (a : Answer) → Answers words texts input a → ((a ≡ Usage) × HaveNoForm words) ⊎ HaveForm words
 words_of words texts input Usage answers = inl (refl, answers)
-words_of words texts input ShelfFault answers = inr (answers.0, answers.1.0, answers.1.1)
-words_of words texts input (NoPackage n) answers = inr (n, answers.0.0, answers.0.1)
-words_of words texts input (TextLimit file) answers = inr (answers.0.0, answers.0.1.0, answers.0.1.1)
-words_of words texts input (Refused file refusal) answers = inr (answers.0.0, answers.0.1.0, answers.0.1.1)
-words_of words texts input PackageLimit answers = inr (answers.0, answers.1.0, answers.1.1)
-words_of words texts input (Unserved file unserved) answers = inr (answers.0.name, answers.0.message, answers.1.words_are)
-words_of words texts input (Broken file breach) answers = inr (answers.0.name, answers.0.message, answers.1.words_are)
-words_of words texts input (NoMessage n m) answers = inr (answers.0.name, answers.0.message, answers.1.words_are)
-words_of words texts input (Branching n place) answers = inr (answers.0.name, answers.0.message, answers.1.words_are)
-words_of words texts input (Unchecked n place) answers = inr (answers.0.name, answers.0.message, answers.1.words_are)
-words_of words texts input SourceFault answers = inr (answers.0.name, answers.0.message, answers.1.words_are)
-words_of words texts input InputLimit answers = inr (answers.0.name, answers.0.message, answers.1.words_are)
-words_of words texts input (Input decoding) answers = inr (answers.0.name, answers.0.message, answers.1.words_are)
+words_of words texts input ShelfFault answers = inr (answers.1.0, answers.1.1)
+words_of words texts input (NoPackage n) answers = inr (answers.0.0, answers.0.1)
+words_of words texts input (TextLimit file) answers = inr (answers.0.1.0, answers.0.1.1)
+words_of words texts input (Refused file refusal) answers = inr (answers.0.1.0, answers.0.1.1)
+words_of words texts input PackageLimit answers = inr (answers.1.0, answers.1.1)
+words_of words texts input (Unserved file unserved) answers = inr (answers.0.ask, answers.1.words_are)
+words_of words texts input (Broken file breach) answers = inr (answers.0.ask, answers.1.words_are)
+words_of words texts input (NoMessage n m) answers = inr (answers.0.ask, answers.1.words_are)
+words_of words texts input (Checked reported) answers = inr (answers.0.ask, answers.1.words_are)
+words_of words texts input (Rejected reported) answers = inr (answers.0.ask, answers.1.words_are)
+words_of words texts input SourceFault answers = inr (answers.0.ask, answers.1.words_are)
+words_of words texts input InputLimit answers = inr (answers.0.ask, answers.1.words_are)
+words_of words texts input (Input decoding) answers = inr (answers.0.ask, answers.1.words_are)
+words_of words texts input (Output encoding) answers = inr (answers.0.ask, answers.1.words_are)
 
 pub one_end_lem : (words : List (List ℕ)) (texts : Texts) (input : List ℕ) (a b : Answer) → IsEnd a → is_fault b ≡ false → Answers words texts input a → Answers words texts input b → a ≡ b
 one_end_lem words texts input a b end sound answers answers' =
     elim (words_of words texts input a answers) [
-      | inl none ↦ elim (words_of words texts input b answers') [ inl none' ↦ none.0 ∙ sym none'.0 | inr has ↦ absurd (none.1 has.0 has.1 has.2) ]
-      | inr has ↦ by_end has (ended_or_read words texts input has.0 has.1 b has.2 sound answers')
+      | inl none ↦ elim (words_of words texts input b answers') [ inl none' ↦ none.0 ∙ sym none'.0 | inr has ↦ absurd (formed words has.0 has.1 none.1) ]
+      | inr has ↦ by_end has (ended_or_read words texts input has.0 b has.1 sound answers')
     ]
   where
-    by_end : (has : HaveForm words) → IsOfWalk texts has.0 b ⊎ IsRead texts has.0 → a ≡ b
-    by_end has (inl is) = one_end_of texts has.0 a b (ended words texts input has.0 has.1 a has.2 end answers) is
-    by_end has (inr all) = absurd (stopped_not_closed (ended words texts input has.0 has.1 a has.2 end answers).stopped all.2)
+    by_end : (has : HaveForm words) → IsOfWalk texts has.0.name b ⊎ IsRead texts has.0.name → a ≡ b
+    by_end has (inl is) = one_end_of texts has.0.name a b (ended words texts input has.0 a has.1 end answers) is
+    by_end has (inr all) = absurd (stopped_not_closed (ended words texts input has.0 a has.1 end answers).stopped all.2)

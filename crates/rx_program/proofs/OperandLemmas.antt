@@ -2,31 +2,13 @@
 use Rattle.std.proofs.Common.{◌≡◌, ℕ, ◌+◌, ◌<◌, ◌≤◌, Bool, true, false, List, [], ◌∷◌, length, map, drop, get_or, refl, sym, ap, ◌∙◌, subst, arith, Option, None, Some, if◌then◌else◌}
 use Rattle.std.specs.List.{AllByRecursion}
 use Rattle.std.proofs.lemmas.List.{at_drop_more, at_drop_all}
-use Rattle.rx_syntax.specs.declared.token.Place.{Place}
-use Rattle.rx_syntax.specs.declared.tree.DeclTree.{DeclTree}
-use Rattle.rx_types.specs.Domain.{Domain, domain_of}
+use Rattle.rx_types.specs.Domain.{domain_of}
 use Rattle.rx_graph.specs.declared.message.Message.{Message}
 use Rattle.rx_graph.specs.declared.spec.Scalar as code
 use Rattle.rx_graph.specs.declared.spec.Spec.{Spec}
-use Rattle.rx_graph.specs.Elaborated.{IsElaborated}
-use Rattle.rx_graph.specs.Cycles.{IsLink}
-use Rattle.rx_graph.specs.Graph.{Arrow, Graph, graph_of, spec_of, named_domain_of, domains_of}
-use Rattle.rx_context.specs.Plain.{HasLinkBefore, IsPlain}
-use Rattle.rx_spec.specs.Laws.{HasNoFirst, IsSoundSpec, domains_in}
-use Rattle.rx_program.specs.Operand.{is_of, message_in, place_in, name_place_in}
-
-pub clash : true ≡ false → ⊥
-clash h = cc
-
-pub same_link : (a b : Arrow) → Some a ≡ Some b → a ≡ b
-same_link a b h = cc
-
--- where no node has two of the first n links, none of them is a second one
-pub no_second : (m : Graph) (n : ℕ) → ((i j : ℕ) (a b : Arrow) → i < n → j < n → IsLink m i a → IsLink m j b → a.source ≡ b.source → i ≡ j) → (j : ℕ) (other : Arrow) → j < n → IsLink m j other → HasLinkBefore m.links j other.source → ⊥
-no_second m n one j other within there before =
-    let earlier = before.2 in
-    let e : before.0 ≡ j = one before.0 j before.1 other (omega arith) within before.3 there before.4 in
-    absurd (omega arith)
+use Rattle.rx_graph.specs.Graph.{Graph, graph_of, spec_of, named_domain_of, domains_of}
+use Rattle.rx_spec.specs.Laws.{domains_in}
+use Rattle.rx_program.specs.Operand.{is_of, message_in}
 
 -- the first i messages are others
 pub record OthersSofar (name message : List ℕ) (ms : List Message) (i : ℕ) : Type 0 where
@@ -59,25 +41,6 @@ found_has P name message (x ∷ ms) m all is = by_test (is_of name message x) (�
     by_test true rest here = (let same : x ≡ m = cc in subst P same all.0)
     by_test false rest there = rest there
 
--- ---- the place of the name
-
-pub record NotSofar (own : Place) (name : List ℕ) (ds : List DeclTree) (i : ℕ) : Type 0 where
-  pub rest : name_place_in own name ds ≡ name_place_in own name (drop i ds)
-
-pub not_more : {own : Place} {name : List ℕ} {ds : List DeclTree} {i : ℕ} (d : DeclTree) → NotSofar own name ds i → i < length ds → d ≡ get_or ds i d → place_in name d.kind ≡ None → NotSofar own name ds (i + 1)
-not_more {own = own} {name = name} {ds = ds} {i = i} d s within is other =
-    let on = at_drop_more (name_place_in own name) ds i d within in
-    record { rest = s.rest ∙ on ∙ rw (← is, other) refl }
-
-pub place_first : {own : Place} {name : List ℕ} {ds : List DeclTree} {i : ℕ} (d : DeclTree) (p : Place) → NotSofar own name ds i → i < length ds → d ≡ get_or ds i d → place_in name d.kind ≡ Some p
-    → p ≡ name_place_in own name ds
-place_first {own = own} {name = name} {ds = ds} {i = i} d p s within is this =
-    let on = at_drop_more (name_place_in own name) ds i d within in
-    sym (s.rest ∙ on ∙ rw (← is, this) refl)
-
-pub no_place : {own : Place} {name : List ℕ} {ds : List DeclTree} {i : ℕ} → NotSofar own name ds i → length ds ≤ i → own ≡ name_place_in own name ds
-no_place {own = own} {name = name} {ds = ds} {i = i} s past = sym (s.rest ∙ at_drop_all (name_place_in own name) ds i past)
-
 -- ---- types
 
 domains_same_in : (xs : List code.Scalar) → map (λ x. x.domain) (map named_domain_of xs) ≡ map (λ x. domain_of x.kind) xs
@@ -88,12 +51,3 @@ domains_same_in (x ∷ xs) = ap (λ l. domain_of x.kind ∷ l) (domains_same_in 
 pub domains_same : (s : Spec) → domains_in (spec_of s) ≡ domains_of s
 domains_same s = domains_same_in s.scalars.items
 
--- the message that is found is elaborated, where it has no First
-pub found_elaborated : (s : Spec) (name message : List ℕ) (m : Graph) → IsSoundSpec (spec_of s) → message_in name message (map graph_of s.messages.items) ≡ Some m → HasNoFirst m → IsElaborated (domains_of s) m
-found_elaborated s name message m sound found none =
-    let has : HasNoFirst m → IsElaborated (domains_in (spec_of s)) m = found_has (λ g. HasNoFirst g → IsElaborated (domains_in (spec_of s)) g) name message (map graph_of s.messages.items) m sound.messages found in
-    subst (λ (ds : List Domain). IsElaborated ds m) (domains_same s) (has none)
-
--- a plain message has no First
-pub plain_no_first : (domains : List Domain) (m : Graph) → IsPlain domains m → HasNoFirst m
-plain_no_first domains m plain i link is = (plain.links i link is).first

@@ -2,8 +2,5 @@
 #![tactic(auto)]
 
 mod fault;
-mod filling;
-mod measuring;
 
 pub use fault::{Unfit, UnfitReason, WriteFault};
-pub use measuring::room;
