@@ -4,11 +4,13 @@
 mod acceptance;
 mod checking;
 mod fault;
+mod laws;
 mod report;
 mod verdict;
 
 pub use acceptance::accepted;
 pub use checking::check;
 pub use fault::NoMemory;
+pub use laws::{reports_are_one, reports_show_soundness};
 pub use report::{Line, Report};
 pub use verdict::{Evidence, Verdict};

@@ -7,6 +7,7 @@ pub mod StageLemmas
 pub mod WordLemmas
 pub mod OneAnswer
 pub mod OneHeader
+pub mod OneReported
 pub mod OneText
 pub mod OneWalk
 pub mod OneRequest

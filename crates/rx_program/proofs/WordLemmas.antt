@@ -1,20 +1,29 @@
--- The parts of an operand.
-use Rattle.std.proofs.Common.{◌≡◌, ℕ, suc, ◌+◌, ◌<◌, ◌≤◌, Bool, true, false, ◌&&◌, List, [], ◌∷◌, ◌++◌, length, map, take, drop, get_or, refl, sym, ap, ◌∙◌, arith, codes, length-append, take-append-drop, drop-cons, add-one, not, Option, None, Some, Result, Ok, Err, IfOk, IfSome}
-use Rattle.std.specs.Str.{bytes_eq, IsAscii}
-use Rattle.std.proofs.lemmas.Str.Ascii.{IsAscii-nil, IsAscii-cons}
-use Rattle.std.proofs.lemmas.Slice.Eq.{bytes_eq-Decides}
-use Rattle.rx_program.specs.declared.words.Operand.{Operand}
-use Rattle.std.proofs.lemmas.List.Sums.{prefix_len_stops}
-use Rattle.std.specs.List.{list_all, prefix_len}
+-- What words of a form ask for: names, and from 1 to 4,096 splits.
+use Rattle.std.proofs.Common.{◌≡◌, ℕ, ◌≤◌, Bool, true, false, not, ◌&&◌, List, [], ◌∷◌, Option, None, Some, refl, sym, ap, ◌∙◌, subst, arith}
+use Rattle.std.specs.Prelude.{option_and_then, option_map, nat_le, if◌then◌else◌, ◌==◌}
+use Rattle.rx_words.specs.declared.line.CommandName.{CommandName}
+use Rattle.rx_words.specs.declared.line.CommandName.TheVariants as code
+use Rattle.rx_words.specs.Form.{Text, Given, nothing_given, any_word, command_named}
+use Rattle.rx_words.specs.Names.{is_word, is_reserved, is_name, named, pair_in, pair_of}
+use Rattle.rx_words.specs.Numbers.{decimal, is_numeral, number_in}
+use Rattle.rx_words.specs.Words.{Asked, Check, Decode, Encode, Run, Load, Wanted, asked, deep_for, splits_of, judged, words_from, form_of}
+use Rattle.std.specs.List.{list_all, before_first, after_first}
 use Rattle.std.proofs.lemmas.Bool.Decides.{nat_tests}
-use Rattle.std.proofs.lemmas.List.{take_at, get_or-append-add}
-use Rattle.std.proofs.Math.Seq.{drop-append-add}
 use Rattle.rx_syntax.specs.Bytes.{is_letter, is_word_byte, is_name as is_joined}
-use Rattle.rx_program.specs.Names.{is_word, is_reserved, is_name}
-use Rattle.rx_program.specs.Words.{is_no_colon, IsOperand, IsDecode}
+use Rattle.rx_types.specs.Names.{IsName}
+use Rattle.rx_program.specs.Asked.{HasNames}
+use Rattle.rx_program.proofs.NameLemmas.{name_of_word}
 
-no_colon : (b : ℕ) → is_word_byte b ≡ true → is_no_colon b ≡ true
-no_colon b word = grind (arith, nat_tests)
+-- the value of an option is that of its first step's value
+pub from_some : {A B : Type 0} (o : Option A) (f : A → Option B) (b : B) → option_and_then f o ≡ Some b → (a : A) × (o ≡ Some a) × (f a ≡ Some b)
+from_some None f b is = absurd (let no : None ≡ Some b = is in cc)
+from_some (Some a) f b is = (a, refl, is)
+
+pub from_map : {A B : Type 0} (f : A → B) (o : Option A) (b : B) → option_map f o ≡ Some b → (a : A) × (o ≡ Some a) × (f a ≡ b)
+from_map f None b is = absurd (let no : None ≡ Some b = is in cc)
+from_map f (Some a) b is = (a, refl, (let same : f a ≡ b = cc in same))
+
+-- ---- names
 
 letter_in_word : (b : ℕ) → is_letter b ≡ true → is_word_byte b ≡ true
 letter_in_word b letter = rw letter refl
@@ -23,14 +32,6 @@ both : (a b : Bool) → (a && b) ≡ true → (a ≡ true) × (b ≡ true)
 both true b h = (refl, h)
 both false b h = absurd (let no : false ≡ true = h in cc)
 
--- bytes of words have no `:` before the one after them
-colon_after : (name rest : List ℕ) → list_all is_word_byte name ≡ true → prefix_len is_no_colon (name ++ 58 ∷ rest) ≡ length name
-colon_after [] rest all = refl
-colon_after (b ∷ bs) rest all =
-    let parts = both (is_word_byte b) (list_all is_word_byte bs) all in
-    let rest_is = colon_after bs rest parts.1 in
-    rw (no_colon b parts.0) (omega (arith, rest_is))
-
 word_bytes : (name : List ℕ) → is_word name ≡ true → list_all is_word_byte name ≡ true
 word_bytes [] word = absurd (let no : false ≡ true = word in cc)
 word_bytes (b ∷ bs) word =
@@ -38,87 +39,81 @@ word_bytes (b ∷ bs) word =
     let parts = both (is_letter b) (list_all is_word_byte bs) front.0 in
     rw (letter_in_word b parts.0) parts.1
 
-name_word : (name : List ℕ) → is_name name ≡ true → is_word name ≡ true
-name_word name is = (both (is_word name) (not (is_reserved name)) is).0
+-- a name of words is one of types
+pub name_is : (name : List ℕ) → is_name name ≡ true → IsName name
+name_is name is = name_of_word name (word_bytes name (both (is_word name) (not (is_reserved name)) is).0)
 
-pub name_bytes : (name : List ℕ) → is_name name ≡ true → list_all is_word_byte name ≡ true
-name_bytes name is = word_bytes name (name_word name is)
+if_same : {A : Type 0} (b : Bool) (x y : A) → (if b then Some x else None) ≡ Some y → (b ≡ true) × (x ≡ y)
+if_same true x y is = (refl, (let same : x ≡ y = cc in same))
+if_same false x y is = absurd (let no : None ≡ Some y = is in cc)
 
--- the `:` of an operand is after its name
-pub at_colon : (word name message : List ℕ) → IsOperand word name message → prefix_len is_no_colon word ≡ length name
-at_colon word name message is = rw is.parts (colon_after name (58 ∷ message) (word_bytes name (name_word name is.name_is)))
+named_is : (text name : List ℕ) → named text ≡ Some name → is_name name ≡ true
+named_is text name is =
+    let parts = if_same (is_name text) text name is in
+    subst (λ (t : List ℕ). is_name t ≡ true) parts.1 parts.0
 
--- what stands where in an operand
-pub record StandsAt (word name message : List ℕ) (at : ℕ) : Type 0 where
-  pub size : length word ≡ at + 2 + length message
-  pub colon : get_or word (at + 1) 0 ≡ 58
-  pub front : take at word ≡ name
-  pub back : drop (at + 2) word ≡ message
+pair_names : (front back : List ℕ) (p : List ℕ × List ℕ) → pair_of front back ≡ Some p → (is_name p.0 ≡ true) × (is_name p.1 ≡ true)
+pair_names front [] p is = absurd (let no : None ≡ Some p = is in cc)
+pair_names front (b ∷ back) p is =
+    let parts = if_same (is_name front && (b == 58 && is_name back)) (front, back) p is in
+    let tests = both (is_name front) (b == 58 && is_name back) parts.0 in
+    (subst (λ (q : List ℕ × List ℕ). is_name q.0 ≡ true) parts.1 tests.0, subst (λ (q : List ℕ × List ℕ). is_name q.1 ≡ true) parts.1 (both (b == 58) (is_name back) tests.1).1)
 
-pub stands_at : (word name message : List ℕ) (at : ℕ) → IsOperand word name message → at ≡ prefix_len is_no_colon word → StandsAt word name message at
-stands_at word name message at is colon =
-    let here : at ≡ length name = colon ∙ at_colon word name message is in
-    rw is.parts (record {
-      size = simp length-append (omega arith);
-      colon = rw here (get_or-append-add name (58 ∷ 58 ∷ message) 1 0);
-      front = take_at name (58 ∷ 58 ∷ message) at (sym here);
-      back = rw here (drop-append-add name (58 ∷ 58 ∷ message) 2);
-    })
+asked_names : (name : CommandName) (text : Text) (deep : Option Text) (a : Asked) → asked name text deep ≡ Some a → HasNames a
+asked_names code.Check text deep a is =
+    let from = from_map (λ p. Check p) (named text) a is in
+    subst HasNames from.2 (named_is text from.0 from.1)
+asked_names code.Decode text deep a is =
+    let from = from_map (λ (p : Text × Text). Decode p.0 p.1 deep) (pair_in text) a is in
+    subst HasNames from.2 (pair_names (before_first (λ b. b == 58) text) (after_first (λ b. b == 58) text) from.0 from.1)
+asked_names code.Encode text deep a is =
+    let from = from_map (λ (p : Text × Text). Encode p.0 p.1) (pair_in text) a is in
+    subst HasNames from.2 tt
+asked_names code.Run text deep a is =
+    let from = from_map (λ (p : Text × Text). Run p.0 p.1) (pair_in text) a is in
+    subst HasNames from.2 tt
+asked_names code.Load text deep a is =
+    let from = from_map (λ count. Load count) (number_in 1 1000 text) a is in
+    subst HasNames from.2 tt
 
-colon_byte : (b : ℕ) → is_no_colon b ≡ false → b ≡ 58
-colon_byte b colon = grind (arith, nat_tests)
+-- ---- splits
 
--- two colons at the first one part the word
-pub parts_at : (word : List ℕ) (at : ℕ) → at ≡ prefix_len is_no_colon word → at + 2 ≤ length word → get_or word (at + 1) 0 ≡ 58 → word ≡ take at word ++ 58 ∷ 58 ∷ drop (at + 2) word
-parts_at word at first within second =
-    let one : at < length word = omega arith in
-    let two : at + 1 < length word = omega arith in
-    let stops : is_no_colon (get_or word at 0) ≡ false = rw first (prefix_len_stops is_no_colon word 0 (rw (← first) one)) in
-    let colon = colon_byte _ stops in
-    let front : drop at word ≡ get_or word at 0 ∷ drop (at + 1) word = rw add-one (drop-cons word at 0 one) in
-    let back : drop (at + 1) word ≡ get_or word (at + 1) 0 ∷ drop (at + 2) word = (let next : at + 2 ≡ suc (at + 1) = omega arith in rw next (drop-cons word (at + 1) 0 two)) in
-    sym (take-append-drop at word) ∙ ap (λ l. take at word ++ l) (front ∙ ap (λ b. b ∷ drop (at + 1) word) colon ∙ ap (λ l. 58 ∷ l) (back ∙ ap (λ b. b ∷ drop (at + 2) word) second))
+abbrev IsFew : ℕ → Type 0
+IsFew n = (1 ≤ n) × (n ≤ 4096)
 
--- the words are two
-pub two_words : (words : List (List ℕ)) (name message : List ℕ) → IsDecode words name message → length words ≡ 2
-two_words [] name message is = absurd is
-two_words (a ∷ []) name message is = absurd is
-two_words (a ∷ b ∷ []) name message is = refl
-two_words (a ∷ b ∷ c ∷ rest) name message is = absurd is
+few_of : (n : ℕ) → nat_le n 4096 ≡ true → nat_le 1 n ≡ true → IsFew n
+few_of n most least = (grind (arith, nat_tests), grind (arith, nat_tests))
 
-pub decode_if : {S : Type 0} (f : S → List ℕ) (words : List S) (d e : S) (name message : List ℕ) → length words ≡ 2 → f (get_or words 0 d) ≡ codes "decode" → IsOperand (f (get_or words 1 e)) name message
-    → IsDecode (map f words) name message
-decode_if f [] d e name message two command operand = absurd (omega arith)
-decode_if f (a ∷ []) d e name message two command operand = absurd (omega arith)
-decode_if f (a ∷ b ∷ []) d e name message two command operand = (command, operand)
-decode_if f (a ∷ b ∷ c ∷ rest) d e name message two command operand = absurd (omega arith)
+number_few : (text : Text) (n : ℕ) → number_in 1 4096 text ≡ Some n → IsFew n
+number_few text n is =
+    let parts = if_same (is_numeral text && (nat_le (decimal text) 4096 && nat_le 1 (decimal text))) (decimal text) n is in
+    let tests = both (nat_le (decimal text) 4096) (nat_le 1 (decimal text)) (both (is_numeral text) (nat_le (decimal text) 4096 && nat_le 1 (decimal text)) parts.0).1 in
+    subst IsFew parts.1 (few_of (decimal text) tests.0 tests.1)
 
--- what holds of an operand that was read, by what implies it
-pub if_read : {E : Type 0} (read : Result (Option Operand) E) (P Q : List ℕ → List ℕ → Type 0) → ((name message : List ℕ) → P name message → Q name message)
-    → IfOk read (λ o. IfSome o (λ operand. P operand.name operand.message)) → IfOk read (λ o. IfSome o (λ operand. Q operand.name operand.message))
-if_read (Err e) P Q more h = tt
-if_read (Ok None) P Q more h = tt
-if_read (Ok (Some operand)) P Q more h = more operand.name operand.message h
+splits_few : (o : Option Text) (n : ℕ) → splits_of o ≡ Some n → IsFew n
+splits_few None n is = (let same : 1024 ≡ n = cc in subst IsFew same (omega arith, omega arith))
+splits_few (Some text) n is = number_few text n is
 
--- a text is this one
-pub text_is : (a b : List ℕ) (differs : Bool) → differs ≡ not (bytes_eq a b) → differs ≡ false → a ≡ b
-text_is a b differs is same =
-    let yes : bytes_eq a b ≡ true = not_false (bytes_eq a b) (sym is ∙ same) in
-    (bytes_eq-Decides a b).0 yes
-  where
-    not_false : (t : Bool) → not t ≡ false → t ≡ true
-    not_false true h = refl
-    not_false false h = absurd (let no : true ≡ false = h in cc)
+-- ---- requests
 
-word_byte_small : (b : ℕ) → is_word_byte b ≡ true → b < 128
-word_byte_small b is = grind (arith, nat_tests)
+pub record IsMade (w : Wanted) : Type 0 where
+  pub names : HasNames w.command
+  pub few : (1 ≤ w.splits) × (w.splits ≤ 4096)
 
-word_bytes_ascii : (bs : List ℕ) → list_all is_word_byte bs ≡ true → IsAscii bs
-word_bytes_ascii [] all = IsAscii-nil
-word_bytes_ascii (b ∷ bs) all =
-    let parts = both (is_word_byte b) (list_all is_word_byte bs) all in
-    IsAscii-cons b bs (word_byte_small b parts.0) (word_bytes_ascii bs parts.1)
+wanted_made : (w v : Wanted) → Some w ≡ Some v → IsMade w → IsMade v
+wanted_made w v is made = (let same : w ≡ v = cc in subst IsMade same made)
 
--- names are ASCII
-pub name_ascii : (name : List ℕ) → is_name name ≡ true → IsAscii name
-name_ascii name is = word_bytes_ascii name (name_bytes name is)
+judged_made : (name : CommandName) (g : Given) (w : Wanted) → judged name g ≡ Some w → IsMade w
+judged_made name g w is =
+    let text = from_some g.operand_value (λ text. option_and_then (λ deep. option_and_then (λ splits. option_and_then (λ command. Some (record { command = command; splits = splits })) (asked name text deep)) (splits_of g.splits_value)) (deep_for name g.deep_value)) w is in
+    let deep = from_some (deep_for name g.deep_value) (λ deep. option_and_then (λ splits. option_and_then (λ command. Some (record { command = command; splits = splits })) (asked name text.0 deep)) (splits_of g.splits_value)) w text.2 in
+    let splits = from_some (splits_of g.splits_value) (λ splits. option_and_then (λ command. Some (record { command = command; splits = splits })) (asked name text.0 deep.0)) w deep.2 in
+    let command = from_some (asked name text.0 deep.0) (λ command. Some (record { command = command; splits = splits.0 })) w splits.2 in
+    wanted_made (record { command = command.0; splits = splits.0 }) w command.2 (record { names = asked_names name text.0 deep.0 command.0 command.1; few = splits_few g.splits_value splits.0 splits.1 })
+
+pub form_made : (words : List Text) (w : Wanted) → form_of words ≡ Some w → IsMade w
+form_made [] w is = absurd (let no : None ≡ Some w = is in cc)
+form_made (word ∷ rest) w is =
+    let name = from_some (command_named word) (λ name. option_and_then (judged name) (words_from any_word nothing_given rest)) w is in
+    let given = from_some (words_from any_word nothing_given rest) (judged name.0) w name.2 in
+    judged_made name.0 given.0 w given.2
