@@ -4,7 +4,7 @@ ghost use Rattle.std.specs.Prelude.{◌≡◌, ◌^◌, IfOk, map};
 ghost use Rattle.std.specs.Option.{option_copied, option_or};
 ghost use Rattle.rx_types.specs.Tree.{tree_of, tree_if_any};
 ghost use Rattle.rx_graph.specs.Graph.{arrow_of, arrows};
-ghost use Rattle.rx_links.specs.Cycle.{IsStop, AreWithin, clauses_of, clause_of, told_of_field, told_by_field, told_at, told_of_way, node_of};
+ghost use Rattle.rx_links.specs.Cycle.{IsStop, AreWithin, told_of_field, told_by_field, told_at, told_of_way, node_of};
 ghost use Rattle.rx_elab.specs.Parts.{parts_of, message_parts_of};
 ghost use Rattle.rx_spec.specs.Arrows.{own_parts, thens_of, clause_in, clause_parts, both, arrow_of_way};
 ghost use Rattle.rx_spec.specs.Kept.{parts_kept};
@@ -12,7 +12,7 @@ ghost use Rattle.rx_spec.specs.Kept.{parts_kept};
 use rx_elab::{MessageParts, Parts};
 use rx_graph::{Link, Node};
 use rx_judge::NoMemory;
-use rx_links::{Stop, Way};
+use rx_links::{Stop, Way, clause_of, clauses_of};
 use rx_syntax::{FieldTree, MessageTree, Named, Place, ThenTree};
 use rx_types::{Expr, FieldId, Operator};
 use std::alloc::Global;
@@ -147,28 +147,6 @@ fn either(
 }
 
 // ---- the place of a link
-
-fn clauses_of<'a>(start: &'a [ThenTree], fields: &'a [FieldTree], source: Stop) -> &'a [ThenTree]
-    ensures { result.now ≡ clauses_of start.now fields.now source }
-{
-    match source {
-        Stop::Start => start,
-        Stop::At(index) => match fields.get(index) {
-            Some(field) => field.thens.as_slice(),
-            None => &[],
-        },
-        Stop::Null => &[],
-    }
-}
-
-fn clause_of<'a>(thens: &'a [ThenTree], clause: Option<usize>) -> Option<&'a ThenTree>
-    ensures { option_copied result ≡ clause_of thens.now clause }
-{
-    match clause {
-        Some(index) => thens.get(index),
-        None => None,
-    }
-}
 
 // The place where the target is declared, or that of the message's name for what is no field.
 fn place_of_field(name: &Named, fields: &[FieldTree], target: Stop) -> Place
