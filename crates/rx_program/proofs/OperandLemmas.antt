@@ -12,7 +12,7 @@ use Rattle.rx_graph.specs.Elaborated.{IsElaborated}
 use Rattle.rx_graph.specs.Cycles.{IsLink}
 use Rattle.rx_graph.specs.Graph.{Arrow, Graph, graph_of, spec_of, named_domain_of, domains_of}
 use Rattle.rx_context.specs.Plain.{HasLinkBefore, IsPlain}
-use Rattle.rx_spec.specs.Laws.{HasNoFirst, IsSoundSpec, domains_in}
+use Rattle.rx_spec.specs.Laws.{IsSoundSpec, domains_in}
 use Rattle.rx_program.specs.Operand.{is_of, message_in, place_in, name_place_in}
 
 pub clash : true ≡ false → ⊥
@@ -88,12 +88,8 @@ domains_same_in (x ∷ xs) = ap (λ l. domain_of x.kind ∷ l) (domains_same_in 
 pub domains_same : (s : Spec) → domains_in (spec_of s) ≡ domains_of s
 domains_same s = domains_same_in s.scalars.items
 
--- the message that is found is elaborated, where it has no First
-pub found_elaborated : (s : Spec) (name message : List ℕ) (m : Graph) → IsSoundSpec (spec_of s) → message_in name message (map graph_of s.messages.items) ≡ Some m → HasNoFirst m → IsElaborated (domains_of s) m
-found_elaborated s name message m sound found none =
-    let has : HasNoFirst m → IsElaborated (domains_in (spec_of s)) m = found_has (λ g. HasNoFirst g → IsElaborated (domains_in (spec_of s)) g) name message (map graph_of s.messages.items) m sound.messages found in
-    subst (λ (ds : List Domain). IsElaborated ds m) (domains_same s) (has none)
-
--- a plain message has no First
-pub plain_no_first : (domains : List Domain) (m : Graph) → IsPlain domains m → HasNoFirst m
-plain_no_first domains m plain i link is = (plain.links i link is).first
+-- the message that is found is elaborated
+pub found_elaborated : (s : Spec) (name message : List ℕ) (m : Graph) → IsSoundSpec (spec_of s) → message_in name message (map graph_of s.messages.items) ≡ Some m → IsElaborated (domains_of s) m
+found_elaborated s name message m sound found =
+    let has : IsElaborated (domains_in (spec_of s)) m = found_has (λ g. IsElaborated (domains_in (spec_of s)) g) name message (map graph_of s.messages.items) m sound.messages found in
+    subst (λ (ds : List Domain). IsElaborated ds m) (domains_same s) has

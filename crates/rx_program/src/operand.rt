@@ -4,7 +4,6 @@ ghost use Rattle.rx_graph.specs.Cycles.{IsLink};
 ghost use Rattle.rx_graph.specs.Elaborated.{IsElaborated};
 ghost use Rattle.rx_graph.specs.Graph.{Arrow, arrow_of, arrows, domains_of, graph_of};
 ghost use Rattle.rx_context.specs.Plain.{HasLinkBefore, HasOneLink, IsPlain};
-ghost use Rattle.rx_spec.specs.Laws.{HasNoFirst};
 ghost use Rattle.rx_program.specs.Names.{is_same};
 ghost use Rattle.rx_program.specs.Operand.{is_of, message_in, IsSecondLink, place_in, name_place};
 
@@ -82,38 +81,11 @@ pub fn second_link(message: &Message) -> Option<Place>
     None
 }
 
-// Whether the link says where its target begins.
-fn has_first(link: &Link) -> bool
-    ensures no_first { result ≡ false → (arrow_of link.now).first ≡ None }
-    ensures first { result ≡ true → (arrow_of link.now).first ≡ None → ⊥ }
-{
-    match &link.first {
-        Some(_) => true,
-        None => false,
-    }
-}
-
-// Whether no link says where its target begins.
-fn has_no_first(message: &Message) -> bool
-    ensures { IsTrue result ↔ HasNoFirst (graph_of message.now) }
-{
-    let links = message.links.as_slice();
-    for index in 0..links.len() {
-        if has_first(&links[index]) {
-            return false;
-        }
-    }
-    true
-}
-
 /// Whether the message is plain.
 pub fn is_served(message: &Message, spec: &Spec) -> bool
-    requires { HasNoFirst (graph_of message.now) → IsElaborated (domains_of spec.now) (graph_of message.now) }
+    requires { IsElaborated (domains_of spec.now) (graph_of message.now) }
     ensures { IsTrue result ↔ IsPlain (domains_of spec.now) (graph_of message.now) }
 {
-    if !has_no_first(message) {
-        return false;
-    }
     is_plain(message, spec)
 }
 

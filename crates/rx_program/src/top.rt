@@ -8,7 +8,7 @@ ghost use Rattle.rx_graph.specs.Graph.{domains_of, graph_of, spec_of};
 ghost use Rattle.rx_context.specs.Plain.{IsPlain, HasOneLink};
 ghost use Rattle.rx_context.specs.Plan.{StandsFor};
 ghost use Rattle.rx_spec.specs.Elaboration.{elaborated};
-ghost use Rattle.rx_spec.specs.Laws.{IsSoundSpec, HasNoFirst};
+ghost use Rattle.rx_spec.specs.Laws.{IsSoundSpec};
 ghost use Rattle.rx_program.specs.Words.{IsDecode, HaveNoForm};
 ghost use Rattle.rx_program.specs.Closure.{IsClosure, ArePaired};
 ghost use Rattle.rx_program.specs.Stop.{Stops};
@@ -165,7 +165,7 @@ fn answer_message<I: Source>(
 ) -> Result<Answer, NoMemory>
     requires paired { ArePaired packages.now.asked.items packages.now.trees.items }
     requires finds { Finds (request_of operand packages.now) (spec_of spec.now) (graph_of message.now) }
-    requires elaborated { HasNoFirst (graph_of message.now) → IsElaborated (domains_of spec.now) (graph_of message.now) }
+    requires elaborated { IsElaborated (domains_of spec.now) (graph_of message.now) }
     ensures answers { IfOk result (λ answer. IfSome (I.left input.old) (λ left. AnswersTo (request_of operand packages.now) left answer)) }
     ensures kind { IfOk result IsOfRequest }
     ensures at_end { IfOk result (λ answer. IsOfWhole answer → IsAtEnd (I.left input.new)) }
