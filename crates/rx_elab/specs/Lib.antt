@@ -1,4 +1,5 @@
 pub mod Fields
+pub mod Firsts
 pub mod Parts
 pub mod Stand
 pub mod Through

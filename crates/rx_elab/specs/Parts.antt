@@ -1,7 +1,8 @@
 -- What is written at the fields and links of a message: their conditions and aspects, in order of text.
 --   Parts                      a condition, a First and a Size, each if it is written
---   message_parts s owner m    those of the links of the start, and of the fields and their links
-use Rattle.std.specs.Prelude.{ℕ, Bool, true, false, List, [], Option, Some, None, Ok, codes, map, if◌then◌else◌}
+--   first_stands               18 where a First has neither form, and 17 where its target's overlay is mixed, at the aspect's name
+--   message_parts s ls owner m    those of the links of the start, and of the fields and their links; links lay their targets so
+use Rattle.std.specs.Prelude.{ℕ, Bool, true, false, not, List, [], Option, Some, None, Ok, codes, map, if◌then◌else◌}
 use Rattle.rx_syntax.specs.declared.token.Place.{Place}
 use Rattle.rx_syntax.specs.declared.tree.ExprTree.{ExprTree}
 use Rattle.rx_syntax.specs.declared.tree.ExprTree.TheVariants as tree
@@ -20,7 +21,9 @@ use Rattle.rx_judge.specs.Scalar.{root_place}
 use Rattle.rx_judge.specs.declared.names.KnownField.{KnownField}
 use Rattle.rx_judge.specs.declared.names.FieldKind.{FieldKind}
 use Rattle.rx_judge.specs.declared.names.FieldKind.TheVariants as field_kind
+use Rattle.rx_elab.specs.Firsts.{has_first_form, laid, is_mixed}
 use Rattle.rx_elab.specs.Through.{through}
+use Rattle.rx_elab.specs.declared.layings.Laying.{Laying}
 use Rattle.rx_elab.specs.declared.parts.Parts as code
 use Rattle.rx_elab.specs.declared.parts.FieldParts as code_field
 use Rattle.rx_elab.specs.declared.parts.MessageParts as code_message
@@ -69,40 +72,59 @@ abbrev pub is_scalar_field : Option KnownField → Bool
 is_scalar_field None = false
 is_scalar_field (Some f) = is_scalar_kind f.kind
 
--- the target is a scalar field; null is none
-abbrev pub is_scalar_target : Scope → Option (List ℕ) → Bool
-is_scalar_target s None = false
-is_scalar_target s (Some w) = is_scalar_field (found s.fields [] w)
+-- the target, where it is a field; null is none
+abbrev pub target_in : Scope → Option (List ℕ) → Option KnownField
+target_in s None = None
+target_in s (Some w) = found s.fields [] w
 
--- an aspect; a Size of a scalar is 10 at its name
-abbrev pub with_aspect : Scope → List ℕ → Bool → Parts → AspectTree → Meaning Parts
-with_aspect s owner scalar parts (aspect.First p e) = number_judged s owner e >>= (λ x. Ok (record parts { first = Some x }))
-with_aspect s owner scalar parts (aspect.Size p e) = if scalar then refused 10 p (codes "Size") else (number_judged s owner e >>= (λ x. Ok (record parts { size = Some x })))
+-- the target is laid over this field by some links, and otherwise by others
+abbrev pub is_mixed_target : List Laying → Option KnownField → Option ℕ → Bool
+is_mixed_target ls (Some f) (Some x) = is_mixed ls f.id x
+is_mixed_target ls target over = false
+
+-- a First in neither form is 18 at its name, and one that lays its target otherwise than another link does is 17
+abbrev pub first_stands : Scope → List Laying → List ℕ → Option KnownField → Place → ExprTree → Meaning (Unit {0})
+first_stands s ls owner target p e =
+    if not (has_first_form s owner e) then refused 18 p (codes "First")
+    else (if is_mixed_target ls target (laid s e) then refused 17 p (codes "First") else Ok tt)
+
+abbrev pub first_judged : Scope → List Laying → List ℕ → Option KnownField → Place → ExprTree → Meaning Tree
+first_judged s ls owner target p e = do
+  u ← first_stands s ls owner target p e
+  number_judged s owner e
+
+-- a Size of a scalar is 10 at its name
+abbrev pub size_judged : Scope → List ℕ → Option KnownField → Place → ExprTree → Meaning Tree
+size_judged s owner target p e = if is_scalar_field target then refused 10 p (codes "Size") else number_judged s owner e
+
+abbrev pub with_aspect : Scope → List Laying → List ℕ → Option KnownField → Parts → AspectTree → Meaning Parts
+with_aspect s ls owner target parts (aspect.First p e) = first_judged s ls owner target p e >>= (λ x. Ok (record parts { first = Some x }))
+with_aspect s ls owner target parts (aspect.Size p e) = size_judged s owner target p e >>= (λ x. Ok (record parts { size = Some x }))
 
 abbrev pub with_condition : Scope → List ℕ → Parts → Option ExprTree → Meaning Parts
 with_condition s owner parts None = Ok parts
 with_condition s owner parts (Some e) = truth_judged s owner e >>= (λ x. Ok (record parts { condition = Some x }))
 
--- aspects and a condition that are written in what has the owner's name
-abbrev pub parts_judged : Scope → List ℕ → Bool → List AspectTree → Option ExprTree → Meaning Parts
-parts_judged s owner scalar xs c = do
-  parts ← through (with_aspect s owner scalar) no_parts xs
+-- aspects of this target, and a condition, that are written in what has the owner's name
+abbrev pub parts_judged : Scope → List Laying → List ℕ → Option KnownField → List AspectTree → Option ExprTree → Meaning Parts
+parts_judged s ls owner target xs c = do
+  parts ← through (with_aspect s ls owner target) no_parts xs
   with_condition s owner parts c
 
-abbrev pub then_parts : Scope → List ℕ → ℕ → ThenTree → Meaning Parts
-then_parts s owner i t = parts_judged s owner (is_scalar_target s t.target) t.aspects.items t.condition
+abbrev pub then_parts : Scope → List Laying → List ℕ → ℕ → ThenTree → Meaning Parts
+then_parts s ls owner i t = parts_judged s ls owner (target_in s t.target) t.aspects.items t.condition
 
 -- a field's own parts come before those of its links
-abbrev pub field_parts : Scope → ℕ → FieldTree → Meaning FieldParts
-field_parts s i f = do
-  own ← parts_judged s f.name.word (is_scalar_target s (Some f.name.word)) f.aspects.items f.condition
-  thens ← each_from (then_parts s f.name.word) 0 f.thens.items
+abbrev pub field_parts : Scope → List Laying → ℕ → FieldTree → Meaning FieldParts
+field_parts s ls i f = do
+  own ← parts_judged s ls f.name.word (target_in s (Some f.name.word)) f.aspects.items f.condition
+  thens ← each_from (then_parts s ls f.name.word) 0 f.thens.items
   Ok (record { own = own; thens = thens })
 
-abbrev pub message_parts : Scope → List ℕ → MessageTree → Meaning MessageParts
-message_parts s owner m = do
-  start ← each_from (then_parts s owner) 0 m.start.items
-  fields ← each_from (field_parts s) 0 m.fields.items
+abbrev pub message_parts : Scope → List Laying → List ℕ → MessageTree → Meaning MessageParts
+message_parts s ls owner m = do
+  start ← each_from (then_parts s ls owner) 0 m.start.items
+  fields ← each_from (field_parts s ls) 0 m.fields.items
   Ok (record { start = start; fields = fields })
 
 -- ---- what the code keeps

@@ -6,6 +6,10 @@ mod expression_tests;
 mod fault;
 mod fields;
 #[cfg(test)]
+mod first_tests;
+mod firsts;
+mod layings;
+#[cfg(test)]
 mod message_tests;
 mod parts;
 mod stand;
@@ -19,6 +23,7 @@ mod types;
 
 pub use fault::refused_with;
 pub use fields::{Held, fields_held};
+pub use layings::{Laying, layings_of, overlay_in};
 pub use parts::{FieldParts, MessageParts, Parts, message_parts};
 pub use stand::{Declared, Seen, package_stands};
 pub use types::{KnownScalar, KnownType, Types, built_in_types, package_types, type_named};

@@ -239,21 +239,6 @@ fn aspects_are_numbers(rt: HostRuntime) -> Result<(), Fail> {
 }
 
 #[test]
-fn fields_lie_where_a_first_says(rt: HostRuntime) -> Result<(), Fail> {
-    let told = of_message(
-        rt.alloc(),
-        "A : U8 then B with First => A'Last + 1; B : U8;",
-        "",
-    )?;
-    assert_eq!(rt; told, None);
-    let told = of_message(rt.alloc(), "A : U8; B : E with First => A'First;", "")?;
-    assert_eq!(rt; told, None);
-    let told = of_message(rt.alloc(), "A : U8; B : E with First => X'First;", "X")?;
-    assert_eq!(rt; told, Some((8, 4, 29)));
-    Ok(())
-}
-
-#[test]
 fn tells_the_first_expression(rt: HostRuntime) -> Result<(), Fail> {
     let told = of_message(rt.alloc(), "A : U8 if X = 1 then B if Y = 1; B : U8;", "X")?;
     assert_eq!(rt; told, Some((8, 4, 11)));

@@ -6,14 +6,17 @@ ghost use Rattle.rx_types.specs.Tree.{tree_of};
 ghost use Rattle.rx_judge.specs.Meaning.{Tells, each_from};
 ghost use Rattle.rx_judge.specs.Names.{scope_of};
 ghost use Rattle.rx_elab.specs.Through.{through};
-ghost use Rattle.rx_elab.specs.Parts.{root_name, number_judged, truth_judged, is_scalar_target, with_aspect, with_condition, no_parts, parts_judged, then_parts, field_parts, message_parts, parts_of, field_parts_of, message_parts_of};
+ghost use Rattle.rx_elab.specs.Parts.{root_name, number_judged, truth_judged, is_scalar_field, target_in, is_mixed_target, first_stands, first_judged, size_judged, with_aspect, with_condition, no_parts, parts_judged, then_parts, field_parts, message_parts, parts_of, field_parts_of, message_parts_of};
 
 use crate::fault::refused_with;
+use crate::firsts::{has_first_form, laid};
+use crate::layings::{Laying, is_mixed};
 use rx_judge::{
-    Fault, FieldKind, Names, NoMemory, Scope, is_number, is_truth, judge, refused, root_place,
+    Fault, FieldKind, KnownField, Names, NoMemory, Scope, is_number, is_truth, judge, refused,
+    root_place,
 };
-use rx_syntax::{AspectTree, ExprTree, FieldTree, MessageTree, ThenTree, Word};
-use rx_types::Expr;
+use rx_syntax::{AspectTree, ExprTree, FieldTree, MessageTree, Place, ThenTree, Word};
+use rx_types::{Expr, FieldId};
 use std::alloc::Global;
 
 /// A condition, a First and a Size, each if it is written.
@@ -84,45 +87,115 @@ fn truth_judged(
     Ok(judged.expr)
 }
 
-// Whether the target of a link is a scalar field; null is none.
-fn is_scalar_target(
+// The target of a link, where it is a field; null is none.
+fn target_in(
     alloc: Global,
     scope: &Scope<'_>,
     target: Option<&Word>,
-) -> Result<bool, NoMemory>
-    ensures { IfOk result (λ b. b ≡ is_scalar_target (scope_of scope.now) (option_copied target.entry)) }
+) -> Result<Option<KnownField>, NoMemory>
+    ensures { IfOk result (λ f. f ≡ target_in (scope_of scope.now) (option_copied target.entry)) }
 {
     match target {
-        None => Ok(false),
-        Some(word) => match scope.fields.find(alloc, b"", word.as_str().as_bytes())? {
-            None => Ok(false),
-            Some(field) => Ok(matches!(field.kind, FieldKind::Scalar(_, _))),
-        },
+        None => Ok(None),
+        Some(word) => scope.fields.find(alloc, b"", word.as_str().as_bytes()),
     }
+}
+
+fn is_scalar_field(field: Option<KnownField>) -> bool
+    ensures { result ≡ is_scalar_field field }
+{
+    match field {
+        None => false,
+        Some(field) => matches!(field.kind, FieldKind::Scalar(_, _)),
+    }
+}
+
+// ---- aspects
+
+fn is_mixed_target(layings: &[Laying], target: Option<KnownField>, over: Option<FieldId>) -> bool
+    ensures { result ≡ is_mixed_target layings.now target over }
+{
+    match (target, over) {
+        (Some(field), Some(over)) => is_mixed(layings, usize::from(field.id), over),
+        (Some(_), None) => false,
+        (None, _) => false,
+    }
+}
+
+fn first_stands(
+    alloc: Global,
+    scope: &Scope<'_>,
+    layings: &[Laying],
+    owner: &Word,
+    target: Option<KnownField>,
+    place: Place,
+    tree: &ExprTree,
+) -> Result<(), Fault>
+    ensures meaning { IfOk result (λ x. first_stands (scope_of scope.now) layings.now owner.now target place tree.now ≡ Ok x) }
+    ensures refusal { IfErr result (λ e. Tells e (first_stands (scope_of scope.now) layings.now owner.now target place tree.now)) }
+{
+    if !has_first_form(alloc, scope, owner, tree)? {
+        return Err(Fault::Refused(refused_with(alloc, 18, place, "First")?));
+    }
+    if is_mixed_target(layings, target, laid(alloc, scope, tree)?) {
+        return Err(Fault::Refused(refused_with(alloc, 17, place, "First")?));
+    }
+    Ok(())
+}
+
+fn first_judged(
+    alloc: Global,
+    scope: &Scope<'_>,
+    layings: &[Laying],
+    owner: &Word,
+    target: Option<KnownField>,
+    place: Place,
+    tree: &ExprTree,
+) -> Result<Expr, Fault>
+    ensures meaning { IfOk result (λ x. first_judged (scope_of scope.now) layings.now owner.now target place tree.now ≡ Ok (tree_of x)) }
+    ensures refusal { IfErr result (λ e. Tells e (first_judged (scope_of scope.now) layings.now owner.now target place tree.now)) }
+{
+    first_stands(alloc, scope, layings, owner, target, place, tree)?;
+    number_judged(alloc, scope, owner, tree)
+}
+
+fn size_judged(
+    alloc: Global,
+    scope: &Scope<'_>,
+    owner: &Word,
+    target: Option<KnownField>,
+    place: Place,
+    tree: &ExprTree,
+) -> Result<Expr, Fault>
+    ensures meaning { IfOk result (λ x. size_judged (scope_of scope.now) owner.now target place tree.now ≡ Ok (tree_of x)) }
+    ensures refusal { IfErr result (λ e. Tells e (size_judged (scope_of scope.now) owner.now target place tree.now)) }
+{
+    if is_scalar_field(target) {
+        return Err(Fault::Refused(refused_with(alloc, 10, place, "Size")?));
+    }
+    number_judged(alloc, scope, owner, tree)
 }
 
 fn add_aspect(
     alloc: Global,
     scope: &Scope<'_>,
+    layings: &[Laying],
     owner: &Word,
-    scalar: bool,
+    target: Option<KnownField>,
     parts: &mut Parts,
     aspect: &AspectTree,
 ) -> Result<(), Fault>
-    ensures meaning { IfOk result (λ x. with_aspect (scope_of scope.now) owner.now scalar (parts_of parts.old) aspect.now ≡ Ok (parts_of parts.new)) }
-    ensures refusal { IfErr result (λ e. Tells e (with_aspect (scope_of scope.now) owner.now scalar (parts_of parts.old) aspect.now)) }
+    ensures meaning { IfOk result (λ x. with_aspect (scope_of scope.now) layings.now owner.now target (parts_of parts.old) aspect.now ≡ Ok (parts_of parts.new)) }
+    ensures refusal { IfErr result (λ e. Tells e (with_aspect (scope_of scope.now) layings.now owner.now target (parts_of parts.old) aspect.now)) }
 {
     match aspect {
-        AspectTree::First(_, tree) => {
-            let first = number_judged(alloc, scope, owner, tree)?;
+        AspectTree::First(place, tree) => {
+            let first = first_judged(alloc, scope, layings, owner, target, *place, tree)?;
             parts.first = Some(first);
             Ok(())
         }
         AspectTree::Size(place, tree) => {
-            if scalar {
-                return Err(Fault::Refused(refused_with(alloc, 10, *place, "Size")?));
-            }
-            let size = number_judged(alloc, scope, owner, tree)?;
+            let size = size_judged(alloc, scope, owner, target, *place, tree)?;
             parts.size = Some(size);
             Ok(())
         }
@@ -152,16 +225,17 @@ fn add_condition(
 fn add_aspects(
     alloc: Global,
     scope: &Scope<'_>,
+    layings: &[Laying],
     owner: &Word,
-    scalar: bool,
+    target: Option<KnownField>,
     parts: &mut Parts,
     aspects: &[AspectTree],
 ) -> Result<(), Fault>
-    ensures meaning { IfOk result (λ x. through (with_aspect (scope_of scope.now) owner.now scalar) (parts_of parts.old) aspects.now ≡ Ok (parts_of parts.new)) }
-    ensures refusal { IfErr result (λ e. Tells e (through (with_aspect (scope_of scope.now) owner.now scalar) (parts_of parts.old) aspects.now)) }
+    ensures meaning { IfOk result (λ x. through (with_aspect (scope_of scope.now) layings.now owner.now target) (parts_of parts.old) aspects.now ≡ Ok (parts_of parts.new)) }
+    ensures refusal { IfErr result (λ e. Tells e (through (with_aspect (scope_of scope.now) layings.now owner.now target) (parts_of parts.old) aspects.now)) }
 {
     for aspect in aspects {
-        add_aspect(alloc, scope, owner, scalar, parts, aspect)?;
+        add_aspect(alloc, scope, layings, owner, target, parts, aspect)?;
     }
     Ok(())
 }
@@ -170,20 +244,21 @@ fn add_aspects(
 fn parts_judged(
     alloc: Global,
     scope: &Scope<'_>,
+    layings: &[Laying],
     owner: &Word,
-    scalar: bool,
+    target: Option<KnownField>,
     aspects: &[AspectTree],
     condition: &Option<ExprTree>,
 ) -> Result<Parts, Fault>
-    ensures meaning { IfOk result (λ x. parts_judged (scope_of scope.now) owner.now scalar aspects.now condition.now ≡ Ok (parts_of x)) }
-    ensures refusal { IfErr result (λ e. Tells e (parts_judged (scope_of scope.now) owner.now scalar aspects.now condition.now)) }
+    ensures meaning { IfOk result (λ x. parts_judged (scope_of scope.now) layings.now owner.now target aspects.now condition.now ≡ Ok (parts_of x)) }
+    ensures refusal { IfErr result (λ e. Tells e (parts_judged (scope_of scope.now) layings.now owner.now target aspects.now condition.now)) }
 {
     let mut parts = Parts {
         condition: None,
         first: None,
         size: None,
     };
-    add_aspects(alloc, scope, owner, scalar, &mut parts, aspects)?;
+    add_aspects(alloc, scope, layings, owner, target, &mut parts, aspects)?;
     add_condition(alloc, scope, owner, &mut parts, condition)?;
     Ok(parts)
 }
@@ -191,73 +266,99 @@ fn parts_judged(
 fn then_parts(
     alloc: Global,
     scope: &Scope<'_>,
+    layings: &[Laying],
     owner: &Word,
     then: &ThenTree,
 ) -> Result<Parts, Fault>
-    ensures meaning { IfOk result (λ x. then_parts (scope_of scope.now) owner.now 0 then.now ≡ Ok (parts_of x)) }
-    ensures refusal { IfErr result (λ e. Tells e (then_parts (scope_of scope.now) owner.now 0 then.now)) }
+    ensures meaning { IfOk result (λ x. then_parts (scope_of scope.now) layings.now owner.now 0 then.now ≡ Ok (parts_of x)) }
+    ensures refusal { IfErr result (λ e. Tells e (then_parts (scope_of scope.now) layings.now owner.now 0 then.now)) }
 {
-    let scalar = is_scalar_target(alloc, scope, then.target.as_ref())?;
-    let parts = parts_judged(alloc, scope, owner, scalar, &then.aspects, &then.condition)?;
+    let target = target_in(alloc, scope, then.target.as_ref())?;
+    let parts = parts_judged(
+        alloc,
+        scope,
+        layings,
+        owner,
+        target,
+        &then.aspects,
+        &then.condition,
+    )?;
     Ok(parts)
 }
 
 fn thens_parts(
     alloc: Global,
     scope: &Scope<'_>,
+    layings: &[Laying],
     owner: &Word,
     thens: &[ThenTree],
 ) -> Result<Vec<Parts>, Fault>
-    ensures meaning { IfOk result (λ xs. each_from (then_parts (scope_of scope.now) owner.now) 0 thens.now ≡ Ok (map parts_of xs.items)) }
-    ensures refusal { IfErr result (λ e. Tells e (each_from (then_parts (scope_of scope.now) owner.now) 0 thens.now)) }
+    ensures meaning { IfOk result (λ xs. each_from (then_parts (scope_of scope.now) layings.now owner.now) 0 thens.now ≡ Ok (map parts_of xs.items)) }
+    ensures refusal { IfErr result (λ e. Tells e (each_from (then_parts (scope_of scope.now) layings.now owner.now) 0 thens.now)) }
 {
     let mut all = Vec::new(alloc);
     for then in thens {
-        let parts = then_parts(alloc, scope, owner, then)?;
+        let parts = then_parts(alloc, scope, layings, owner, then)?;
         all.push(parts)?;
     }
     Ok(all)
 }
 
-fn field_parts(alloc: Global, scope: &Scope<'_>, field: &FieldTree) -> Result<FieldParts, Fault>
-    ensures meaning { IfOk result (λ x. field_parts (scope_of scope.now) 0 field.now ≡ Ok (field_parts_of x)) }
-    ensures refusal { IfErr result (λ e. Tells e (field_parts (scope_of scope.now) 0 field.now)) }
+fn field_parts(
+    alloc: Global,
+    scope: &Scope<'_>,
+    layings: &[Laying],
+    field: &FieldTree,
+) -> Result<FieldParts, Fault>
+    ensures meaning { IfOk result (λ x. field_parts (scope_of scope.now) layings.now 0 field.now ≡ Ok (field_parts_of x)) }
+    ensures refusal { IfErr result (λ e. Tells e (field_parts (scope_of scope.now) layings.now 0 field.now)) }
 {
     let word = &field.name.word;
-    let scalar = is_scalar_target(alloc, scope, Some(word))?;
-    let own = parts_judged(alloc, scope, word, scalar, &field.aspects, &field.condition)?;
-    let thens = thens_parts(alloc, scope, word, &field.thens)?;
+    let target = target_in(alloc, scope, Some(word))?;
+    let own = parts_judged(
+        alloc,
+        scope,
+        layings,
+        word,
+        target,
+        &field.aspects,
+        &field.condition,
+    )?;
+    let thens = thens_parts(alloc, scope, layings, word, &field.thens)?;
     Ok(FieldParts { own, thens })
 }
 
 fn fields_parts(
     alloc: Global,
     scope: &Scope<'_>,
+    layings: &[Laying],
     fields: &[FieldTree],
 ) -> Result<Vec<FieldParts>, Fault>
-    ensures meaning { IfOk result (λ xs. each_from (field_parts (scope_of scope.now)) 0 fields.now ≡ Ok (map field_parts_of xs.items)) }
-    ensures refusal { IfErr result (λ e. Tells e (each_from (field_parts (scope_of scope.now)) 0 fields.now)) }
+    ensures meaning { IfOk result (λ xs. each_from (field_parts (scope_of scope.now) layings.now) 0 fields.now ≡ Ok (map field_parts_of xs.items)) }
+    ensures refusal { IfErr result (λ e. Tells e (each_from (field_parts (scope_of scope.now) layings.now) 0 fields.now)) }
 {
     let mut all = Vec::new(alloc);
     for field in fields {
-        let parts = field_parts(alloc, scope, field)?;
+        let parts = field_parts(alloc, scope, layings, field)?;
         all.push(parts)?;
     }
     Ok(all)
 }
 
-/// The conditions and aspects of a message in order of text, where `owner` is the message's name: 8, 10, 12 and 13 by
-/// their expressions, and 10 at a Size of a scalar field.
+/// The conditions and aspects of a message in order of text, where `owner` is the message's name and its links lay their
+/// targets so: 8, 10, 12 and 13 by their expressions, 10 at a Size of a scalar field, 18 at a First that has neither
+/// form, and 17 at one that lays its target over a field, where another link lays it otherwise.
 pub fn message_parts(
     alloc: Global,
     scope: &Scope<'_>,
+    layings: &[Laying],
     owner: &Word,
     message: &MessageTree,
 ) -> Result<MessageParts, Fault>
-    ensures meaning { IfOk result (λ x. message_parts (scope_of scope.now) owner.now message.now ≡ Ok (message_parts_of x)) }
-    ensures refusal { IfErr result (λ e. Tells e (message_parts (scope_of scope.now) owner.now message.now)) }
+    ensures meaning { IfOk result (λ x. message_parts (scope_of scope.now) layings.now owner.now message.now ≡ Ok (message_parts_of x)) }
+    ensures refusal { IfErr result (λ e. Tells e (message_parts (scope_of scope.now) layings.now owner.now message.now)) }
 {
-    let start = thens_parts(alloc, scope, owner, &message.start)?;
-    let fields = fields_parts(alloc, scope, &message.fields)?;
+    let start = thens_parts(alloc, scope, layings, owner, &message.start)?;
+    let fields = fields_parts(alloc, scope, layings, &message.fields)?;
     Ok(MessageParts { start, fields })
 }

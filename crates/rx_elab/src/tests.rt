@@ -1,12 +1,12 @@
 //! Worked packages, with what is refused of them first.
 
 use crate::{
-    Held, MessageParts, Types, built_in_types, fields_held, message_parts, package_stands,
-    package_types,
+    Held, MessageParts, Types, built_in_types, fields_held, layings_of, message_parts,
+    package_stands, package_types,
 };
 use rx_grammar::parse_package;
 use rx_judge::{Fault, FieldKind, KnownField, Scope, Table, spelled};
-use rx_links::{counts_stand, links_of, no_cycle, positions};
+use rx_links::{Way, counts_stand, links_of, no_cycle, positions};
 use rx_syntax::{
     DeclKind, DeclTree, DefTree, FieldTree, HeaderTree, MessageTree, Named, PackageTree, lex,
 };
@@ -91,12 +91,13 @@ fn known_fields(
     Ok(table)
 }
 
-// The links of a message stand.
-fn ways_stand(alloc: Global, name: &Named, message: &MessageTree) -> Result<(), Fault> {
+// The links of a message, which stand.
+fn ways_of(alloc: Global, name: &Named, message: &MessageTree) -> Result<Vec<Way>, Fault> {
     let table = positions(alloc, &message.fields)?;
     let ways = links_of(alloc, &table, &message.start, &message.fields)?;
     no_cycle(alloc, name, &message.start, &message.fields, &ways)?;
-    counts_stand(alloc, name, message.fields.len(), ways.len())
+    counts_stand(alloc, name, message.fields.len(), ways.len())?;
+    Ok(ways)
 }
 
 // The parts of a message, after what its fields hold.
@@ -109,7 +110,7 @@ pub fn parts_of(
 ) -> Result<MessageParts, Fault> {
     let package = &header.name.word;
     let held = fields_held(alloc, &types.types, package, &header.withs, &message.fields)?;
-    ways_stand(alloc, name, message)?;
+    let ways = ways_of(alloc, name, message)?;
     let fields = known_fields(alloc, &message.fields, &held)?;
     let scope = Scope {
         package,
@@ -117,7 +118,8 @@ pub fn parts_of(
         fields: &fields,
         literals: &types.literals,
     };
-    message_parts(alloc, &scope, &name.word, message)
+    let layings = layings_of(alloc, &scope, message, &ways)?;
+    message_parts(alloc, &scope, &layings, &name.word, message)
 }
 
 fn declaration_stands(

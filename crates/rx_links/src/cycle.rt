@@ -22,7 +22,12 @@ fn first(alloc: Global, nodes: usize, links: &[Ends]) -> Result<Option<usize>, N
     }
 }
 
-fn clauses_of<'a>(start: &'a [ThenTree], fields: &'a [FieldTree], source: Stop) -> &'a [ThenTree]
+/// The clauses of a node.
+pub fn clauses_of<'a>(
+    start: &'a [ThenTree],
+    fields: &'a [FieldTree],
+    source: Stop,
+) -> &'a [ThenTree]
     ensures { result.now ≡ clauses_of start.now fields.now source }
 {
     match source {
@@ -81,7 +86,8 @@ fn told_at(
     }
 }
 
-fn clause_of<'a>(thens: &'a [ThenTree], clause: Option<usize>) -> Option<&'a ThenTree>
+/// The clause of a link, if it has one.
+pub fn clause_of<'a>(thens: &'a [ThenTree], clause: Option<usize>) -> Option<&'a ThenTree>
     ensures { option_copied result ≡ clause_of thens.now clause }
 {
     match clause {

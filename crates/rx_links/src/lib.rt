@@ -10,7 +10,7 @@ mod names;
 mod tests;
 
 pub use counts::counts_stand;
-pub use cycle::no_cycle;
+pub use cycle::{clause_of, clauses_of, no_cycle};
 pub use law::stands_without_cycle;
 pub use links::{Stop, Way, links_of};
 pub use names::positions;

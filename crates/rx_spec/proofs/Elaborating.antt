@@ -1,7 +1,7 @@
 -- What comes out of elaboration is elaborated.
 --   message_elaborated, nothing_elaborated    a message, and a null message
 --   elaboration_is_sound                      all messages of a specification
-use Rattle.std.proofs.Common.{◌≡◌, ◌∙◌, ap, subst, ℕ, ◌+◌, Bool, false, List, [], ◌∷◌, ◌++◌, Some, Result, Ok, Err}
+use Rattle.std.proofs.Common.{◌≡◌, ◌∙◌, ap, subst, ℕ, ◌+◌, ◌<◌, Bool, false, List, [], ◌∷◌, ◌++◌, length, Some, Result, Ok, Err}
 use Rattle.std.specs.Prelude.{slice_get, IfOk}
 use Rattle.std.specs.List.{AllByRecursion}
 use Rattle.std.proofs.lemmas.Option.{none-some}
@@ -18,23 +18,25 @@ use Rattle.rx_types.specs.Domain.{Domain, EachPair}
 use Rattle.rx_types.specs.Names.{IsSameName}
 use Rattle.rx_graph.specs.declared.message.Field.{Field}
 use Rattle.rx_graph.specs.Elaborated.{IsElaborated, IsElaboratedField}
-use Rattle.rx_graph.specs.Graph.{Graph, Specified, spec_of}
+use Rattle.rx_graph.specs.Graph.{Graph, Specified, spec_of, kind_of, limit_of}
 use Rattle.rx_graph.specs.declared.spec.Spec.{Spec}
 use Rattle.rx_judge.specs.Meaning.{Meaning, ◌>>=◌, all_stand_from}
 use Rattle.rx_judge.specs.Scalar.{spelled}
 use Rattle.rx_judge.proofs.Meanings.{bind_ok, ok_same}
+use Rattle.rx_elab.specs.Firsts.{layings_of, overlay_in}
 use Rattle.rx_elab.specs.Stand.{Known, fresh, message_stands, definition_stands, kind_stands, declaration_stands, built_in}
 use Rattle.rx_elab.specs.Through.{through}
 use Rattle.rx_elab.specs.Types.{Types, built_in_types}
 use Rattle.rx_elab.specs.declared.stand.Declared.{Declared}
 use Rattle.rx_elab.specs.declared.stand.Seen.{Seen}
 use Rattle.rx_spec.specs.Elaboration.{elaborated, through_from, package_stands_in, package_types_in, package_messages_in}
-use Rattle.rx_spec.specs.Laws.{HasNoFirst, IsSoundSpec, ElaborationIsSound}
-use Rattle.rx_spec.specs.Messages.{message_of, Body, graph_named, null_body, with_message, definition_meant, kind_meant, declaration_meant, package_messages}
+use Rattle.rx_spec.specs.Laws.{IsSoundSpec, ElaborationIsSound}
+use Rattle.rx_spec.specs.Messages.{scope_in, message_of, Body, graph_named, null_body, with_message, definition_meant, kind_meant, declaration_meant, package_messages}
 use Rattle.rx_spec.specs.declared.fault.SpecFault.{SpecFault}
 use Rattle.rx_spec.proofs.Domains.{domains_of, Lists, types_list, declarations_stand, in_package_ok}
 use Rattle.rx_spec.proofs.FieldNames.{field_names_apart}
 use Rattle.rx_spec.proofs.Holding.{fields_stand, fields_elaborated}
+use Rattle.rx_spec.proofs.Lying.{overlay_below}
 use Rattle.rx_spec.proofs.Nothing.{null_links}
 use Rattle.rx_spec.proofs.Parting.{made}
 use Rattle.rx_spec.proofs.Standing.{LinksStand}
@@ -49,27 +51,30 @@ AreApart g = EachPair (λ a b. IsSameName a.name b.name → ⊥) g.fields
 abbrev AreFields : List Domain → Graph → Type 0
 AreFields domains g = (f : ℕ) (x : Field) → slice_get g.fields f ≡ Some x → IsElaboratedField domains g x
 
-together : (domains : List Domain) (g : Graph) → AreApart g → AreFields domains g → LinksStand domains g → HasNoFirst g → IsElaborated domains g
-together domains g n f l plain =
+together : (domains : List Domain) (g : Graph) → AreApart g → AreFields domains g → LinksStand domains g → IsElaborated domains g
+together domains g n f l =
     record {
       few_fields = l.few_fields;
       few_links = l.few_links;
       few_paths = l.few_paths;
       names = n;
       fields = f;
-      links = l.links plain;
+      links = l.links;
       begins = l.begins;
       goes_on = l.goes_on;
       acyclic = l.acyclic;
     }
 
-pub message_elaborated : (t : Types) (h : HeaderTree) (name : Named) (m : MessageTree) (g : Graph) (s : Seen) → Lists t → message_of t h name m ≡ Ok g → message_stands m ≡ Ok s → HasNoFirst g → IsElaborated (domains_of t.scalars) g
-message_elaborated t h name m g s l e k plain =
+pub message_elaborated : (t : Types) (h : HeaderTree) (name : Named) (m : MessageTree) (g : Graph) (s : Seen) → Lists t → message_of t h name m ≡ Ok g → message_stands m ≡ Ok s → IsElaborated (domains_of t.scalars) g
+message_elaborated t h name m g s l e k =
     let a = made t h name m g e in
-    let names = field_names_apart m s a.held g.fields k a.fields in
-    let fields = fields_stand t h a.held m g l a.shaped.holds a.fields in
-    let each = fields_elaborated t h a.held m g l a.shaped.holds a.fields g.links tt a.sized a.low in
-    together (domains_of t.scalars) g names each (links_stand (domains_of t.scalars) t h name m g a fields names) plain
+    let scope = scope_in t h a.held m in
+    let layings = layings_of scope m a.ways in
+    let names = field_names_apart m s a.held layings g.fields k a.fields in
+    let fields = fields_stand t h a.held layings m g l a.shaped.holds a.fields in
+    let below : (j y : ℕ) → overlay_in layings j ≡ Some y → y < length g.fields = λ j y o. overlay_below (kind_of (domains_of t.scalars) g) (limit_of (domains_of t.scalars) g) (length g.fields) scope fields.scope m a.ways j y o in
+    let each = fields_elaborated t h a.held layings m g l a.shaped.holds a.fields below g.links tt a.sized a.low in
+    together (domains_of t.scalars) g names each (links_stand (domains_of t.scalars) t h name m g a fields names)
 
 no_fields : (h : HeaderTree) (name : Named) (b : Body) (low : Bool) (g : Graph) → graph_named h name b low ≡ Ok g → b.fields ≡ g.fields
 no_fields h name b low g e =
@@ -77,17 +82,17 @@ no_fields h name b low g e =
     let w = bind_ok (spelled name) (λ (w : List ℕ). Ok (record { «package» = p.0; name = w; fields = b.fields; links = b.links; low_order = low })) g p.2 in
     ap (λ (x : Graph). x.fields) (ok_same (record { «package» = p.0; name = w.0; fields = b.fields; links = b.links; low_order = low }) g w.2)
 
-pub nothing_elaborated : (domains : List Domain) (h : HeaderTree) (name : Named) (g : Graph) → graph_named h name (null_body name) false ≡ Ok g → HasNoFirst g → IsElaborated domains g
-nothing_elaborated domains h name g e plain =
+pub nothing_elaborated : (domains : List Domain) (h : HeaderTree) (name : Named) (g : Graph) → graph_named h name (null_body name) false ≡ Ok g → IsElaborated domains g
+nothing_elaborated domains h name g e =
     let none : [] ≡ g.fields = no_fields h name (null_body name) false g e in
     let names = subst (λ (xs : List Field). EachPair (λ a b. IsSameName a.name b.name → ⊥) xs) none tt in
-    together domains g names (λ f x s. absurd (none-some x (ap (λ (xs : List Field). slice_get xs f) none ∙ s))) (null_links domains h name g e) plain
+    together domains g names (λ f x s. absurd (none-some x (ap (λ (xs : List Field). slice_get xs f) none ∙ s))) (null_links domains h name g e)
 
 -- ---- declarations
 
 module _ (t : Types) (known : Lists t) where
   abbrev IsGood : Graph → Type 0
-  IsGood g = HasNoFirst g → IsElaborated (domains_of t.scalars) g
+  IsGood g = IsElaborated (domains_of t.scalars) g
 
   abbrev AreGood : List Graph → Type 0
   AreGood gs = AllByRecursion (λ g. IsGood g) gs

@@ -15,6 +15,8 @@ use Rattle.rx_elab.specs.Stand.{Known, fresh, aspects_stand, claimed, with_aspec
 use Rattle.rx_elab.specs.Through.{through}
 use Rattle.rx_elab.specs.declared.fields.Held.{Held}
 use Rattle.rx_elab.specs.declared.stand.Seen.{Seen}
+use Rattle.rx_elab.specs.Firsts.{overlay_in}
+use Rattle.rx_elab.specs.declared.layings.Laying.{Laying}
 use Rattle.rx_spec.specs.Messages.{type_held, field_meant}
 use Rattle.rx_spec.proofs.Apart.{Fresh, none_fresh, more_fresh, is_fresh, pairs_named}
 use Rattle.rx_spec.proofs.Proper.{spelled_same}
@@ -52,18 +54,18 @@ fields_fresh s s' (f ∷ fs) h =
     let one = bind_ok (field_stands s f) (λ (x : Seen). through field_stands x fs) s' h in
     field_fresh s one.0 f (field_names fs) one.1 (fields_fresh one.0 s' fs one.2)
 
-names_along : (held : List Held) (i : ℕ) (fs : List FieldTree) (xs : List Field) → each_from (field_meant held) i fs ≡ Ok xs → field_names fs ≡ map (λ (x : Field). x.name) xs
-names_along held i [] xs h = ap (λ ys. map (λ (x : Field). x.name) ys) (ok_same [] xs h)
-names_along held i (f ∷ fs) xs h =
-    let one = bind_ok (field_meant held i f) (λ (y : Field). each_from (field_meant held) (i + 1) fs >>= (λ ys. Ok (y ∷ ys))) xs h in
-    let rest = bind_ok (each_from (field_meant held) (i + 1) fs) (λ (ys : List Field). Ok (one.0 ∷ ys)) xs one.2 in
-    let word = bind_ok (spelled f.name) (λ (w : List ℕ). Ok (record { name = w; kind = type_held (slice_get held i); overlay = None })) one.0 one.1 in
+names_along : (held : List Held) (ls : List Laying) (i : ℕ) (fs : List FieldTree) (xs : List Field) → each_from (field_meant held ls) i fs ≡ Ok xs → field_names fs ≡ map (λ (x : Field). x.name) xs
+names_along held ls i [] xs h = ap (λ ys. map (λ (x : Field). x.name) ys) (ok_same [] xs h)
+names_along held ls i (f ∷ fs) xs h =
+    let one = bind_ok (field_meant held ls i f) (λ (y : Field). each_from (field_meant held ls) (i + 1) fs >>= (λ ys. Ok (y ∷ ys))) xs h in
+    let rest = bind_ok (each_from (field_meant held ls) (i + 1) fs) (λ (ys : List Field). Ok (one.0 ∷ ys)) xs one.2 in
+    let word = bind_ok (spelled f.name) (λ (w : List ℕ). Ok (record { name = w; kind = type_held (slice_get held i); overlay = overlay_in ls i })) one.0 one.1 in
     let name : f.name.word ≡ one.0.name = spelled_same f.name word.0 word.1 ∙ ap (λ (x : Field). x.name) (ok_same _ one.0 word.2) in
-    ap (λ w. w ∷ field_names fs) name ∙ ap (λ ws. one.0.name ∷ ws) (names_along held (i + 1) fs rest.0 rest.1) ∙ ap (λ ys. map (λ (x : Field). x.name) ys) (ok_same (one.0 ∷ rest.0) xs rest.2)
+    ap (λ w. w ∷ field_names fs) name ∙ ap (λ ws. one.0.name ∷ ws) (names_along held ls (i + 1) fs rest.0 rest.1) ∙ ap (λ ys. map (λ (x : Field). x.name) ys) (ok_same (one.0 ∷ rest.0) xs rest.2)
 
 -- the fields of a message that stands have different names
-pub field_names_apart : (m : MessageTree) (s : Seen) (held : List Held) (xs : List Field) → message_stands m ≡ Ok s → each_from (field_meant held) 0 m.fields.items ≡ Ok xs → EachPair (λ a b. IsSameName a.name b.name → ⊥) xs
-field_names_apart m s held xs h e =
+pub field_names_apart : (m : MessageTree) (s : Seen) (held : List Held) (ls : List Laying) (xs : List Field) → message_stands m ≡ Ok s → each_from (field_meant held ls) 0 m.fields.items ≡ Ok xs → EachPair (λ a b. IsSameName a.name b.name → ⊥) xs
+field_names_apart m s held ls xs h e =
     let start = bind_ok (through then_stands no_fields m.start.items) (λ (x : Seen). through field_stands x m.fields.items) s h in
     let fresh = fields_fresh start.0 s m.fields.items start.2 in
-    pairs_named (λ (x : Field). x.name) xs (subst (λ ws. EachPair (λ a b. IsSameName a b → ⊥) ws) (names_along held 0 m.fields.items xs e) fresh.apart)
+    pairs_named (λ (x : Field). x.name) xs (subst (λ ws. EachPair (λ a b. IsSameName a b → ⊥) ws) (names_along held ls 0 m.fields.items xs e) fresh.apart)

@@ -30,9 +30,11 @@ use Rattle.rx_judge.specs.declared.fault.Refusal.{Refusal}
 use Rattle.rx_judge.specs.declared.names.KnownField.{KnownField}
 use Rattle.rx_judge.proofs.Meanings.{bind_ok, ok_same, if_ok, err_differs}
 use Rattle.rx_elab.specs.Fields.{held_as, field_held}
+use Rattle.rx_elab.specs.Firsts.{overlay_in}
 use Rattle.rx_elab.specs.Types.{Types, own_type, is_visible_in, type_in, type_named}
 use Rattle.rx_elab.specs.declared.fields.Held.{Held}
 use Rattle.rx_elab.specs.declared.fields.Held.TheVariants as holds
+use Rattle.rx_elab.specs.declared.layings.Laying.{Laying}
 use Rattle.rx_elab.specs.declared.types.KnownScalar.{KnownScalar}
 use Rattle.rx_elab.specs.declared.types.KnownType.{KnownType}
 use Rattle.rx_elab.specs.declared.types.KnownType.TheVariants as known_type
@@ -81,20 +83,20 @@ module _ (domains : List Domain) where
       held_known f.kind.name k.0 h (type_known table p withs f.kind.«package» f.kind.name k.0 t k.1) k.2
 
 -- field i is that of the text, with what it holds
-pub record IsFieldAt (held : List Held) (fs : List FieldTree) (i : ℕ) (x : Field) : Type 0 where
+pub record IsFieldAt (held : List Held) (ls : List Laying) (fs : List FieldTree) (i : ℕ) (x : Field) : Type 0 where
   pub tree : FieldTree
   pub hold : Held
   pub text : slice_get fs i ≡ Some tree
   pub holding : slice_get held i ≡ Some hold
   pub name : tree.name.word ≡ x.name
   pub kind : type_held (Some hold) ≡ x.kind
-  pub overlay : None ≡ x.overlay
+  pub overlay : overlay_in ls i ≡ x.overlay
 
-module _ (held : List Held) (fs : List FieldTree) (fields : List Field) where
-  meant_at : (i : ℕ) (f : FieldTree) (x : Field) (h : Held) → slice_get fs i ≡ Some f → slice_get held i ≡ Some h → field_meant held i f ≡ Ok x → IsFieldAt held fs i x
+module _ (held : List Held) (ls : List Laying) (fs : List FieldTree) (fields : List Field) where
+  meant_at : (i : ℕ) (f : FieldTree) (x : Field) (h : Held) → slice_get fs i ≡ Some f → slice_get held i ≡ Some h → field_meant held ls i f ≡ Ok x → IsFieldAt held ls fs i x
   meant_at i f x h t g e =
-      let w = bind_ok (spelled f.name) (λ (v : List ℕ). Ok (record { name = v; kind = type_held (slice_get held i); overlay = None })) x e in
-      let same : record { name = w.0; kind = type_held (slice_get held i); overlay = None } ≡ x = ok_same _ x w.2 in
+      let w = bind_ok (spelled f.name) (λ (v : List ℕ). Ok (record { name = v; kind = type_held (slice_get held i); overlay = overlay_in ls i })) x e in
+      let same : record { name = w.0; kind = type_held (slice_get held i); overlay = overlay_in ls i } ≡ x = ok_same _ x w.2 in
       record {
         tree = f;
         hold = h;
@@ -105,13 +107,13 @@ module _ (held : List Held) (fs : List FieldTree) (fields : List Field) where
         overlay = ap (λ (y : Field). y.overlay) same;
       }
 
-  pub field_at : (i : ℕ) (x : Field) → length held ≡ length fs → each_from (field_meant held) 0 fs ≡ Ok fields → slice_get fields i ≡ Some x → IsFieldAt held fs i x
+  pub field_at : (i : ℕ) (x : Field) → length held ≡ length fs → each_from (field_meant held ls) 0 fs ≡ Ok fields → slice_get fields i ≡ Some x → IsFieldAt held ls fs i x
   field_at i x n e g =
       let within = slice_get_within fields i x g in
-      let count = each_length (field_meant held) 0 fs fields e in
+      let count = each_length (field_meant held ls) 0 fs fields e in
       let f = get_within fs i (omega arith) in
       let h = get_within held i (omega arith) in
-      let y = each_at (field_meant held) 0 fs fields i i f.0 e f.1 (omega arith) in
+      let y = each_at (field_meant held ls) 0 fs fields i i f.0 e f.1 (omega arith) in
       let same : y.0 ≡ x = same_Some y.0 x (sym y.1 ∙ g) in
       meant_at i f.0 x h.0 f.1 h.1 (y.2 ∙ ap (λ z. Ok z) same)
 
@@ -179,10 +181,10 @@ is_field_type domains g low links name i holds.Opaque d e k = tt
 abbrev AreHeld : Types → HeaderTree → List Held → MessageTree → Type 0
 AreHeld t h held m = each_from (field_held t.types h.name.word h.withs.items) 0 m.fields.items ≡ Ok held
 
-abbrev AreMeant : List Held → MessageTree → Graph → Type 0
-AreMeant held m g = each_from (field_meant held) 0 m.fields.items ≡ Ok g.fields
+abbrev AreMeant : List Held → List Laying → MessageTree → Graph → Type 0
+AreMeant held ls m g = each_from (field_meant held ls) 0 m.fields.items ≡ Ok g.fields
 
-module _ (t : Types) (h : HeaderTree) (held : List Held) (m : MessageTree) (g : Graph) (l : Lists t) (e : AreHeld t h held m) (f : AreMeant held m g) where
+module _ (t : Types) (h : HeaderTree) (held : List Held) (ls : List Laying) (m : MessageTree) (g : Graph) (l : Lists t) (e : AreHeld t h held m) (f : AreMeant held ls m g) where
   abbrev Domains : List Domain
   Domains = domains_of t.scalars
 
@@ -190,7 +192,7 @@ module _ (t : Types) (h : HeaderTree) (held : List Held) (m : MessageTree) (g : 
   held_count = each_length (field_held t.types h.name.word h.withs.items) 0 m.fields.items held e
 
   count : length g.fields ≡ length m.fields.items
-  count = each_length (field_meant held) 0 m.fields.items g.fields f
+  count = each_length (field_meant held ls) 0 m.fields.items g.fields f
 
   holds_known : (i : ℕ) (x : Held) → slice_get held i ≡ Some x → IsHeld Domains x
   holds_known i x s =
@@ -205,13 +207,14 @@ module _ (t : Types) (h : HeaderTree) (held : List Held) (m : MessageTree) (g : 
   field_of i x s =
       let within = slice_get_within held i x s in
       let y = get_within g.fields i (omega (arith, held_count, count)) in
-      let at = field_at held m.fields.items g.fields i y.0 held_count f y.1 in
+      let at = field_at held ls m.fields.items g.fields i y.0 held_count f y.1 in
       let same : at.hold ≡ x = same_Some at.hold x (sym at.holding ∙ s) in
       (y.0, y.1, ap (λ z. type_held (Some z)) (sym same) ∙ at.kind)
 
-  no_overlay : (i : ℕ) (o : Option Field) → slice_get g.fields i ≡ o → overlay_of o ≡ None
-  no_overlay i None s = refl
-  no_overlay i (Some x) s = sym (field_at held m.fields.items g.fields i x held_count f s).overlay
+  overlay_at : (i : ℕ) → i < length g.fields → overlay_of (slice_get g.fields i) ≡ overlay_in ls i
+  overlay_at i within =
+      let y = get_within g.fields i within in
+      ap overlay_of y.1 ∙ sym (field_at held ls m.fields.items g.fields i y.0 held_count f y.1).overlay
 
   fits_at : (j k : ℕ) (x : Held) → slice_get held k ≡ Some x → j ≡ 0 + k → Fits Domains g (record { id = j; kind = kind_held x })
   fits_at j k x s n =
@@ -237,7 +240,7 @@ module _ (t : Types) (h : HeaderTree) (held : List Held) (m : MessageTree) (g : 
   type_of_bytes i k = let y = field_of i holds.Opaque k in type_at Domains g i y.0 holds.Opaque y.1 y.2
 
   -- the fields of the text have their types in the message
-  pub fields_stand : FieldsStand Domains t h held m g
+  pub fields_stand : FieldsStand Domains t h held ls m g
   fields_stand =
       record {
         count = count;
@@ -245,16 +248,16 @@ module _ (t : Types) (h : HeaderTree) (held : List Held) (m : MessageTree) (g : 
         scope = scope_fits;
         scalar = type_of_scalar;
         opaque = type_of_bytes;
-        overlay = λ i. no_overlay i (slice_get g.fields i) refl;
+        overlay = overlay_at;
       }
 
-  -- the fields are elaborated, where they have their sizes
-  pub fields_elaborated : (links : List Arrow) (u : Unit {0}) → fields_sized m.low_order held links m.fields.items ≡ Ok u → g.low_order ≡ m.low_order → (i : ℕ) (x : Field) → slice_get g.fields i ≡ Some x → IsElaboratedField Domains g x
-  fields_elaborated links u sized low i x s =
-      let at = field_at held m.fields.items g.fields i x held_count f s in
+  -- the fields are elaborated, where they have their sizes and lie over fields of the message
+  pub fields_elaborated : ((j y : ℕ) → overlay_in ls j ≡ Some y → y < length g.fields) → (links : List Arrow) (u : Unit {0}) → fields_sized m.low_order held links m.fields.items ≡ Ok u → g.low_order ≡ m.low_order → (i : ℕ) (x : Field) → slice_get g.fields i ≡ Some x → IsElaboratedField Domains g x
+  fields_elaborated below links u sized low i x s =
+      let at = field_at held ls m.fields.items g.fields i x held_count f s in
       let stands = stands_at (field_sized m.low_order held links) 0 m.fields.items u i i at.tree sized at.text (omega arith) in
       let is_sized : held_sized m.low_order links at.tree.name i (Some at.hold) ≡ Ok tt = ap (λ o. held_sized m.low_order links at.tree.name i o) (sym at.holding) ∙ stands in
       record {
         kind = subst (λ k. IsFieldType Domains g k) at.kind (is_field_type Domains g m.low_order links at.tree.name i at.hold (holds_known i at.hold at.holding) is_sized low);
-        overlay = λ y k. absurd (none-some y (at.overlay ∙ k));
+        overlay = λ y k. below i y (at.overlay ∙ k);
       }

@@ -5,11 +5,14 @@ pub mod Elaborating
 pub mod Ends
 pub mod Expressions
 pub mod FieldNames
+pub mod Forms
 pub mod Holding
 pub mod Items
 pub mod Known
+pub mod Lying
 pub mod Made
 pub mod Nothing
+pub mod Overlays
 pub mod Parting
 pub mod Passing
 pub mod Pathing

@@ -77,7 +77,7 @@ module _ (p w : List ℕ) (place : Place) where
         few_fields = omega arith;
         few_links = omega arith;
         few_paths = few_paths;
-        links = λ plain i link is. subst (λ (l : Arrow). IsElaboratedLink domains graph l) (is_only (only_link place) i link is) (link_stands domains);
+        links = λ i link is. subst (λ (l : Arrow). IsElaboratedLink domains graph l) (is_only (only_link place) i link is) (link_stands domains);
         begins = (0, only_link place, refl, refl);
         goes_on = λ f h. absurd (omega (arith, h));
         acyclic = none;

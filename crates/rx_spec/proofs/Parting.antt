@@ -8,6 +8,7 @@ use Rattle.rx_syntax.specs.declared.tree.HeaderTree.{HeaderTree}
 use Rattle.rx_graph.specs.declared.message.Field.{Field}
 use Rattle.rx_graph.specs.Graph.{Arrow, Graph}
 use Rattle.rx_judge.specs.Meaning.{◌>>=◌, each_from}
+use Rattle.rx_judge.specs.Names.{Scope}
 use Rattle.rx_judge.specs.Scalar.{spelled}
 use Rattle.rx_judge.specs.Table.{Entry}
 use Rattle.rx_judge.proofs.Meanings.{bind_ok, ok_same}
@@ -16,12 +17,14 @@ use Rattle.rx_links.specs.Cycle.{no_cycle}
 use Rattle.rx_links.specs.Links as links
 use Rattle.rx_links.specs.declared.links.Way.{Way}
 use Rattle.rx_elab.specs.Fields.{field_held}
+use Rattle.rx_elab.specs.Firsts.{layings_of}
 use Rattle.rx_elab.specs.Parts.{MessageParts, message_parts}
 use Rattle.rx_elab.specs.Types.{Types}
 use Rattle.rx_elab.specs.declared.fields.Held.{Held}
+use Rattle.rx_elab.specs.declared.layings.Laying.{Laying}
 use Rattle.rx_elab.specs.declared.types.KnownType.{KnownType}
 use Rattle.rx_spec.specs.Arrows.{arrow_of_way}
-use Rattle.rx_spec.specs.Messages.{field_meant, scope_in, links_meant, sized_links, Body, body_of, graph_named, message_of}
+use Rattle.rx_spec.specs.Messages.{field_meant, scope_in, links_meant, sized_links, Body, body_shaped, body_of, graph_named, message_of}
 use Rattle.rx_spec.specs.Shape.{Shape, shape_of, ways_of, ways_stand, paths_stand, few_stand}
 use Rattle.rx_spec.specs.Sizes.{fields_sized}
 
@@ -38,8 +41,8 @@ pub record IsMade (t : Types) (h : HeaderTree) (name : Named) (m : MessageTree) 
   pub ways : List Way
   pub parts : MessageParts
   pub shaped : IsShaped t.types h.name.word h.withs.items name m held ways
-  pub fields : each_from (field_meant held) 0 m.fields.items ≡ Ok g.fields
-  pub judged : message_parts (scope_in t h held m) name.word m ≡ Ok parts
+  pub fields : each_from (field_meant held (layings_of (scope_in t h held m) m ways)) 0 m.fields.items ≡ Ok g.fields
+  pub judged : message_parts (scope_in t h held m) (layings_of (scope_in t h held m) m ways) name.word m ≡ Ok parts
   pub arrows : g.links ≡ map (arrow_of_way name m parts) ways
   pub sized : fields_sized m.low_order held g.links m.fields.items ≡ Ok tt
   pub low : g.low_order ≡ m.low_order
@@ -61,29 +64,31 @@ shaped types p withs name m s e =
 
 -- ---- the message
 
-pub record IsLinked (t : Types) (h : HeaderTree) (name : Named) (m : MessageTree) (s : Shape) (links : List Arrow) : Type 0 where
+pub record IsLinked (s : Scope) (ls : List Laying) (name : Named) (m : MessageTree) (shape : Shape) (links : List Arrow) : Type 0 where
   pub parts : MessageParts
-  pub judged : message_parts (scope_in t h s.held m) name.word m ≡ Ok parts
-  pub arrows : links ≡ map (arrow_of_way name m parts) s.ways
-  pub sized : fields_sized m.low_order s.held links m.fields.items ≡ Ok tt
+  pub judged : message_parts s ls name.word m ≡ Ok parts
+  pub arrows : links ≡ map (arrow_of_way name m parts) shape.ways
+  pub sized : fields_sized m.low_order shape.held links m.fields.items ≡ Ok tt
 
-linked : (t : Types) (h : HeaderTree) (name : Named) (m : MessageTree) (s : Shape) (links : List Arrow) → sized_links t h name m s ≡ Ok links → IsLinked t h name m s links
-linked t h name m s links e =
-    let a = bind_ok (links_meant t h name m s) (λ (ls : List Arrow). fields_sized m.low_order s.held ls m.fields.items >>= (λ u. Ok ls)) links e in
-    let b = bind_ok (fields_sized m.low_order s.held a.0 m.fields.items) (λ u. Ok a.0) links a.2 in
-    let c = bind_ok (message_parts (scope_in t h s.held m) name.word m) (λ (ps : MessageParts). Ok (map (arrow_of_way name m ps) s.ways)) a.0 a.1 in
-    let have : IsLinked t h name m s a.0 = record { parts = c.0; judged = c.1; arrows = sym (ok_same (map (arrow_of_way name m c.0) s.ways) a.0 c.2); sized = b.1 } in
-    subst (λ (ls : List Arrow). IsLinked t h name m s ls) (ok_same a.0 links b.2) have
+linked : (s : Scope) (ls : List Laying) (name : Named) (m : MessageTree) (shape : Shape) (links : List Arrow) → sized_links s ls name m shape ≡ Ok links → IsLinked s ls name m shape links
+linked s ls name m shape links e =
+    let a = bind_ok (links_meant s ls name m shape.ways) (λ (xs : List Arrow). fields_sized m.low_order shape.held xs m.fields.items >>= (λ u. Ok xs)) links e in
+    let b = bind_ok (fields_sized m.low_order shape.held a.0 m.fields.items) (λ u. Ok a.0) links a.2 in
+    let c = bind_ok (message_parts s ls name.word m) (λ (ps : MessageParts). Ok (map (arrow_of_way name m ps) shape.ways)) a.0 a.1 in
+    let have : IsLinked s ls name m shape a.0 = record { parts = c.0; judged = c.1; arrows = sym (ok_same (map (arrow_of_way name m c.0) shape.ways) a.0 c.2); sized = b.1 } in
+    subst (λ (xs : List Arrow). IsLinked s ls name m shape xs) (ok_same a.0 links b.2) have
 
 in_body : (t : Types) (h : HeaderTree) (name : Named) (m : MessageTree) (p w : List ℕ) (b : Body) → body_of t h name m ≡ Ok b → IsMade t h name m (record { «package» = p; name = w; fields = b.fields; links = b.links; low_order = m.low_order })
 in_body t h name m p w b e =
-    let x = bind_ok (shape_of t.types h.name.word h.withs.items name m) (λ (s : Shape). each_from (field_meant s.held) 0 m.fields.items >>= (λ fields. sized_links t h name m s >>= (λ links. Ok (record { fields = fields; links = links })))) b e in
-    let s = x.0 in
-    let y = bind_ok (each_from (field_meant s.held) 0 m.fields.items) (λ (fields : List Field). sized_links t h name m s >>= (λ links. Ok (record { fields = fields; links = links }))) b x.2 in
-    let z = bind_ok (sized_links t h name m s) (λ (links : List Arrow). Ok (record { fields = y.0; links = links })) b y.2 in
-    let l = linked t h name m s z.0 z.1 in
+    let x = bind_ok (shape_of t.types h.name.word h.withs.items name m) (λ (shape : Shape). body_shaped (scope_in t h shape.held m) name m shape) b e in
+    let shape = x.0 in
+    let s = scope_in t h shape.held m in
+    let ls = layings_of s m shape.ways in
+    let y = bind_ok (each_from (field_meant shape.held ls) 0 m.fields.items) (λ (fields : List Field). sized_links s ls name m shape >>= (λ links. Ok (record { fields = fields; links = links }))) b x.2 in
+    let z = bind_ok (sized_links s ls name m shape) (λ (links : List Arrow). Ok (record { fields = y.0; links = links })) b y.2 in
+    let l = linked s ls name m shape z.0 z.1 in
     let have : IsMade t h name m (record { «package» = p; name = w; fields = y.0; links = z.0; low_order = m.low_order }) =
-    record { held = s.held; ways = s.ways; parts = l.parts; shaped = shaped t.types h.name.word h.withs.items name m s x.1; fields = y.1; judged = l.judged; arrows = l.arrows; sized = l.sized; low = refl } in
+    record { held = shape.held; ways = shape.ways; parts = l.parts; shaped = shaped t.types h.name.word h.withs.items name m shape x.1; fields = y.1; judged = l.judged; arrows = l.arrows; sized = l.sized; low = refl } in
     subst (λ (c : Body). IsMade t h name m (record { «package» = p; name = w; fields = c.fields; links = c.links; low_order = m.low_order })) {x = record { fields = y.0; links = z.0 }} (ok_same (record { fields = y.0; links = z.0 }) b z.2) have
 
 -- what each message is made of

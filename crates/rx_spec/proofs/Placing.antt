@@ -1,6 +1,6 @@
--- Sizes of links: a scalar has none, and any other field has one or ends the message.
-use Rattle.std.proofs.Common.{◌≡◌, ◌∙◌, ap, sym, refl, subst, ℕ, zero, suc, ◌+◌, Bool, true, false, ◌&&◌, ◌||◌, not, List, [], ◌∷◌, ◌++◌, length, map, Option, Some, None, Ok, arith, ◌⊎◌, inl, inr}
-use Rattle.std.specs.Prelude.{slice_get, find, filter, ◌≢◌, if◌then◌else◌}
+-- Names and Sizes of a link's target: a scalar has no Size, and any other field has one or ends the message.
+use Rattle.std.proofs.Common.{◌≡◌, ◌∙◌, ap, sym, refl, subst, ℕ, zero, suc, ◌+◌, Bool, true, false, ◌&&◌, ◌||◌, not, List, [], ◌∷◌, ◌++◌, length, map, Option, Some, None, Ok, Err, arith, ◌⊎◌, inl, inr}
+use Rattle.std.specs.Prelude.{slice_get, find, filter, codes, ◌≢◌, if◌then◌else◌}
 use Rattle.std.specs.List.{list_any, AllByRecursion}
 use Rattle.std.specs.Option.{option_map}
 use Rattle.std.specs.Str.{bytes_eq}
@@ -19,8 +19,10 @@ use Rattle.rx_graph.specs.Checks.{is_node}
 use Rattle.rx_graph.specs.Cycles.{IsLink}
 use Rattle.rx_graph.specs.Elaborated.{OnlyEnds}
 use Rattle.rx_graph.specs.Graph.{Arrow, Graph}
+use Rattle.rx_judge.specs.Meaning.{Meaning}
 use Rattle.rx_judge.specs.Names.{Scope}
 use Rattle.rx_judge.specs.Table.{Entry, entry, is_entry, lowered, found, has, added}
+use Rattle.rx_judge.specs.declared.fault.Refusal.{Refusal}
 use Rattle.rx_judge.specs.declared.names.KnownField.{KnownField}
 use Rattle.rx_judge.specs.declared.names.FieldKind.{FieldKind}
 use Rattle.rx_judge.specs.declared.names.FieldKind.TheVariants as field_kind
@@ -28,9 +30,10 @@ use Rattle.rx_judge.proofs.Lows.{both_true}
 use Rattle.rx_judge.proofs.Meanings.{bind_ok, ok_same, err_differs}
 use Rattle.rx_links.specs.Positions.{positions, positions_from}
 use Rattle.rx_elab.specs.Through.{through}
-use Rattle.rx_elab.specs.Parts.{Parts, no_parts, is_scalar_kind, is_scalar_field, number_judged, truth_judged, with_aspect, with_condition, parts_judged}
+use Rattle.rx_elab.specs.Parts.{Parts, no_parts, is_scalar_kind, is_scalar_field, number_judged, truth_judged, first_judged, size_judged, with_aspect, with_condition, parts_judged}
 use Rattle.rx_elab.specs.declared.fields.Held.{Held}
 use Rattle.rx_elab.specs.declared.fields.Held.TheVariants as holds
+use Rattle.rx_elab.specs.declared.layings.Laying.{Laying}
 use Rattle.rx_elab.specs.declared.types.KnownScalar.{KnownScalar}
 use Rattle.rx_spec.specs.Messages.{kind_held, known_from, known_fields}
 use Rattle.rx_spec.specs.Sizes.{is_said, lacks_size, is_one_end, only_ends, is_sized}
@@ -38,11 +41,11 @@ use Rattle.rx_spec.proofs.Items.{all_append, fails_at}
 
 -- ---- the fields of expressions are those of targets
 
-abbrev kind_or : Option Held → FieldKind
+abbrev pub kind_or : Option Held → FieldKind
 kind_or None = field_kind.Bytes
 kind_or (Some h) = kind_held h
 
-abbrev known_at : List Held → ℕ → KnownField
+abbrev pub known_at : List Held → ℕ → KnownField
 known_at held i = record { id = i; kind = kind_or (slice_get held i) }
 
 abbrev known_entry : List Held → Entry ℕ → Entry KnownField
@@ -91,6 +94,14 @@ scalar_named held fs w i s same e h =
     ∙ ap is_scalar_field (found_mapped held [] w (positions fs))
     ∙ ap (λ (o : Option ℕ). is_scalar_field (option_map (known_at held) o)) e
     ∙ ap (λ (o : Option Held). is_scalar_kind (kind_or o)) h
+
+-- a name of a field is known as that field
+pub named_field : (held : List Held) (fs : List FieldTree) (w : List ℕ) (i : ℕ) → length held ≡ length fs → found (positions fs) [] w ≡ Some i → found (known_fields held fs) [] w ≡ Some (known_at held i)
+named_field held fs w i same e =
+    let from : (j : ℕ) (x : Held) → slice_get held j ≡ Some x → slice_get held (0 + j) ≡ Some x = λ j x k. let p : j ≡ 0 + j = omega arith in subst (λ (n : ℕ). slice_get held n ≡ Some x) p k in
+    ap (λ (t : List (Entry KnownField)). found t [] w) (known_mapped held 0 [] held fs same from)
+    ∙ found_mapped held [] w (positions fs)
+    ∙ ap (λ (o : Option ℕ). option_map (known_at held) o) e
 
 -- ---- each name stands at its field's place
 
@@ -192,17 +203,23 @@ own_place fs i f apart h =
 
 -- ---- a scalar has no Size
 
-aspect_without : (s : Scope) (owner : List ℕ) (p q : Parts) (a : AspectTree) → p.size ≡ None → with_aspect s owner true p a ≡ Ok q → q.size ≡ None
-aspect_without s owner p q (aspect.First l e) h k =
-    let b = bind_ok (number_judged s owner e) (λ (x : Tree). Ok (record p { first = Some x })) q k in
-    ap (λ (y : Parts). y.size) (sym (ok_same (record p { first = Some b.0 }) q b.2)) ∙ h
-aspect_without s owner p q (aspect.Size l e) h k = absurd (err_differs _ q k)
+sized_not : {A : Type 0} (b : Bool) (r : Refusal) (m : Meaning A) (x : A) → b ≡ true → (if b then Err r else m) ≡ Ok x → ⊥
+sized_not true r m x is h = err_differs r x h
+sized_not false r m x is h = cc
 
-aspects_without : (s : Scope) (owner : List ℕ) (p q : Parts) (xs : List AspectTree) → p.size ≡ None → through (with_aspect s owner true) p xs ≡ Ok q → q.size ≡ None
-aspects_without s owner p q [] h k = ap (λ (y : Parts). y.size) (sym (ok_same p q k)) ∙ h
-aspects_without s owner p q (a ∷ xs) h k =
-    let b = bind_ok (with_aspect s owner true p a) (λ (y : Parts). through (with_aspect s owner true) y xs) q k in
-    aspects_without s owner b.0 q xs (aspect_without s owner p b.0 a h b.1) b.2
+aspect_without : (s : Scope) (ls : List Laying) (owner : List ℕ) (target : Option KnownField) (p q : Parts) (a : AspectTree) → is_scalar_field target ≡ true → p.size ≡ None → with_aspect s ls owner target p a ≡ Ok q → q.size ≡ None
+aspect_without s ls owner target p q (aspect.First l e) is h k =
+    let b = bind_ok (first_judged s ls owner target l e) (λ (x : Tree). Ok (record p { first = Some x })) q k in
+    ap (λ (y : Parts). y.size) (sym (ok_same (record p { first = Some b.0 }) q b.2)) ∙ h
+aspect_without s ls owner target p q (aspect.Size l e) is h k =
+    let b = bind_ok (size_judged s owner target l e) (λ (x : Tree). Ok (record p { size = Some x })) q k in
+    absurd (sized_not (is_scalar_field target) (record { number = 10; place = l; name = codes "Size" }) (number_judged s owner e) b.0 is b.1)
+
+aspects_without : (s : Scope) (ls : List Laying) (owner : List ℕ) (target : Option KnownField) (p q : Parts) (xs : List AspectTree) → is_scalar_field target ≡ true → p.size ≡ None → through (with_aspect s ls owner target) p xs ≡ Ok q → q.size ≡ None
+aspects_without s ls owner target p q [] is h k = ap (λ (y : Parts). y.size) (sym (ok_same p q k)) ∙ h
+aspects_without s ls owner target p q (a ∷ xs) is h k =
+    let b = bind_ok (with_aspect s ls owner target p a) (λ (y : Parts). through (with_aspect s ls owner target) y xs) q k in
+    aspects_without s ls owner target b.0 q xs is (aspect_without s ls owner target p b.0 a is h b.1) b.2
 
 condition_without : (s : Scope) (owner : List ℕ) (p q : Parts) (c : Option ExprTree) → p.size ≡ None → with_condition s owner p c ≡ Ok q → q.size ≡ None
 condition_without s owner p q None h k = ap (λ (y : Parts). y.size) (sym (ok_same p q k)) ∙ h
@@ -210,11 +227,10 @@ condition_without s owner p q (Some e) h k =
     let b = bind_ok (truth_judged s owner e) (λ (x : Tree). Ok (record p { condition = Some x })) q k in
     ap (λ (y : Parts). y.size) (sym (ok_same (record p { condition = Some b.0 }) q b.2)) ∙ h
 
-pub parts_without : (s : Scope) (owner : List ℕ) (scalar : Bool) (xs : List AspectTree) (c : Option ExprTree) (q : Parts) → scalar ≡ true → parts_judged s owner scalar xs c ≡ Ok q → q.size ≡ None
-parts_without s owner scalar xs c q is k =
-    let t = subst (λ (b : Bool). parts_judged s owner b xs c ≡ Ok q) is k in
-    let b = bind_ok (through (with_aspect s owner true) no_parts xs) (λ (y : Parts). with_condition s owner y c) q t in
-    condition_without s owner b.0 q c (aspects_without s owner no_parts b.0 xs refl b.1) b.2
+pub parts_without : (s : Scope) (ls : List Laying) (owner : List ℕ) (target : Option KnownField) (xs : List AspectTree) (c : Option ExprTree) (q : Parts) → is_scalar_field target ≡ true → parts_judged s ls owner target xs c ≡ Ok q → q.size ≡ None
+parts_without s ls owner target xs c q is k =
+    let b = bind_ok (through (with_aspect s ls owner target) no_parts xs) (λ (y : Parts). with_condition s owner y c) q k in
+    condition_without s owner b.0 q c (aspects_without s ls owner target no_parts b.0 xs is refl b.1) b.2
 
 -- ---- any other field has a Size, or ends the message
 

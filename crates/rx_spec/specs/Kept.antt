@@ -3,7 +3,7 @@
 --   body_kept b             fields and links
 --   paths_onward m          the links of the paths from the start to null
 --   paths_and_few, counted_ways    the last steps of ways_stand
---   parts_meant, body_shaped, null_meant    steps of the meaning of a message
+--   null_meant                     a step of the meaning of a null message
 --   specified, typed               the last steps of elaborated
 --   fault_in i e                       the fault of what stands in package i
 use Rattle.std.specs.Prelude.{ℕ, false, List, [], length, Option, Some, None, Result, Ok}
@@ -14,18 +14,17 @@ use Rattle.rx_syntax.specs.declared.tree.PackageTree.{PackageTree}
 use Rattle.rx_graph.specs.declared.message.Node.TheVariants.{Start, Null}
 use Rattle.rx_graph.specs.Graph.{Graph, Specified, arrows}
 use Rattle.rx_graph.specs.Onward.{onward}
-use Rattle.rx_judge.specs.Meaning.{Meaning, ◌>>=◌, each_from}
+use Rattle.rx_judge.specs.Meaning.{Meaning, ◌>>=◌}
 use Rattle.rx_judge.specs.declared.fault.Fault.{Fault}
 use Rattle.rx_judge.specs.declared.fault.Fault.TheVariants as fault
 use Rattle.rx_links.specs.Counts.{counts_stand}
 use Rattle.rx_links.specs.declared.links.Way.{Way}
-use Rattle.rx_elab.specs.Parts.{Parts, MessageParts, no_parts, parts_of, message_parts}
+use Rattle.rx_elab.specs.Parts.{Parts, no_parts, parts_of}
 use Rattle.rx_elab.specs.Types.{Types, built_in_types}
 use Rattle.rx_elab.specs.declared.parts.Parts as code
-use Rattle.rx_elab.specs.declared.fields.Held.{Held}
 use Rattle.rx_spec.specs.Elaboration.{package_types_in, package_messages_in, through_from}
-use Rattle.rx_spec.specs.Messages.{Body, scope_in, field_meant, sized_links, null_body, graph_named}
-use Rattle.rx_spec.specs.Shape.{Shape, paths_stand, few_stand}
+use Rattle.rx_spec.specs.Messages.{Body, null_body, graph_named}
+use Rattle.rx_spec.specs.Shape.{paths_stand, few_stand}
 use Rattle.rx_spec.specs.declared.body.Body as code_body
 use Rattle.rx_spec.specs.declared.fault.Told.{Told}
 use Rattle.rx_spec.specs.declared.fault.SpecFault.{SpecFault}
@@ -55,17 +54,6 @@ abbrev pub counted_ways : Named → MessageTree → List Way → Meaning (Unit {
 counted_ways name m ways = do
   v ← counts_stand name (length m.fields.items) (length ways)
   paths_and_few name m ways
-
--- what is written of a message, where its fields hold hs
-abbrev pub parts_meant : Types → HeaderTree → Named → MessageTree → List Held → Meaning MessageParts
-parts_meant t h name m hs = message_parts (scope_in t h hs m) name.word m
-
--- the steps of body_of behind the shape
-abbrev pub body_shaped : Types → HeaderTree → Named → MessageTree → Shape → Meaning Body
-body_shaped t h name m s = do
-  fields ← each_from (field_meant s.held) 0 m.fields.items
-  links ← sized_links t h name m s
-  Ok (record { fields = fields; links = links })
 
 -- a message without fields
 abbrev pub null_meant : HeaderTree → Named → Meaning Graph

@@ -26,11 +26,14 @@ use Rattle.rx_judge.specs.Table.{Entry, added}
 use Rattle.rx_judge.specs.declared.names.KnownField.{KnownField}
 use Rattle.rx_judge.specs.declared.names.FieldKind.{FieldKind}
 use Rattle.rx_judge.specs.declared.names.FieldKind.TheVariants as field_kind
+use Rattle.rx_links.specs.declared.links.Way.{Way}
+use Rattle.rx_elab.specs.Firsts.{layings_of, overlay_in}
 use Rattle.rx_elab.specs.Parts.{message_parts}
 use Rattle.rx_elab.specs.Through.{through}
 use Rattle.rx_elab.specs.Types.{Types}
 use Rattle.rx_elab.specs.declared.fields.Held.{Held}
 use Rattle.rx_elab.specs.declared.fields.Held.TheVariants as holds
+use Rattle.rx_elab.specs.declared.layings.Laying.{Laying}
 use Rattle.rx_spec.specs.Arrows.{arrow_of_way}
 use Rattle.rx_spec.specs.Shape.{Shape, shape_of}
 use Rattle.rx_spec.specs.Sizes.{fields_sized}
@@ -54,8 +57,9 @@ type_held None = field_type.Opaque
 type_held (Some (holds.Scalar s)) = field_type.Scalar s.id
 type_held (Some holds.Opaque) = field_type.Opaque
 
-abbrev pub field_meant : List Held → ℕ → FieldTree → Meaning Field
-field_meant hs i f = spelled f.name >>= (λ w. Ok (record { name = w; kind = type_held (slice_get hs i); overlay = None }))
+-- a field, which lies over the field over which all links to it lay it
+abbrev pub field_meant : List Held → List Laying → ℕ → FieldTree → Meaning Field
+field_meant hs ls i f = spelled f.name >>= (λ w. Ok (record { name = w; kind = type_held (slice_get hs i); overlay = overlay_in ls i }))
 
 -- ---- messages
 
@@ -63,16 +67,16 @@ field_meant hs i f = spelled f.name >>= (λ w. Ok (record { name = w; kind = typ
 abbrev pub scope_in : Types → HeaderTree → List Held → MessageTree → Scope
 scope_in t h hs m = record { «package» = h.name.word; withs = h.withs.items; fields = known_fields hs m.fields.items; literals = t.literals }
 
-abbrev pub links_meant : Types → HeaderTree → Named → MessageTree → Shape → Meaning (List Arrow)
-links_meant t h name m s = do
-  ps ← message_parts (scope_in t h s.held m) name.word m
-  Ok (map (arrow_of_way name m ps) s.ways)
+abbrev pub links_meant : Scope → List Laying → Named → MessageTree → List Way → Meaning (List Arrow)
+links_meant s ls name m ways = do
+  ps ← message_parts s ls name.word m
+  Ok (map (arrow_of_way name m ps) ways)
 
 -- the links, with which the fields have their Sizes
-abbrev pub sized_links : Types → HeaderTree → Named → MessageTree → Shape → Meaning (List Arrow)
-sized_links t h name m s = do
-  links ← links_meant t h name m s
-  u ← fields_sized m.low_order s.held links m.fields.items
+abbrev pub sized_links : Scope → List Laying → Named → MessageTree → Shape → Meaning (List Arrow)
+sized_links s ls name m shape = do
+  links ← links_meant s ls name m shape.ways
+  u ← fields_sized m.low_order shape.held links m.fields.items
   Ok links
 
 -- fields and links
@@ -80,12 +84,20 @@ pub record Body : Type 0 where
   pub fields : List Field
   pub links : List Arrow
 
+-- the body of a message whose links lay their targets so
+abbrev pub body_laid : Scope → List Laying → Named → MessageTree → Shape → Meaning Body
+body_laid s ls name m shape = do
+  fields ← each_from (field_meant shape.held ls) 0 m.fields.items
+  links ← sized_links s ls name m shape
+  Ok (record { fields = fields; links = links })
+
+abbrev pub body_shaped : Scope → Named → MessageTree → Shape → Meaning Body
+body_shaped s name m shape = body_laid s (layings_of s m shape.ways) name m shape
+
 abbrev pub body_of : Types → HeaderTree → Named → MessageTree → Meaning Body
 body_of t h name m = do
-  s ← shape_of t.types h.name.word h.withs.items name m
-  fields ← each_from (field_meant s.held) 0 m.fields.items
-  links ← sized_links t h name m s
-  Ok (record { fields = fields; links = links })
+  shape ← shape_of t.types h.name.word h.withs.items name m
+  body_shaped (scope_in t h shape.held m) name m shape
 
 abbrev pub graph_named : HeaderTree → Named → Body → Bool → Meaning Graph
 graph_named h name b low = do

@@ -12,7 +12,7 @@ ghost use Rattle.rx_spec.specs.Kept.{parts_kept};
 use rx_elab::{MessageParts, Parts};
 use rx_graph::{Link, Node};
 use rx_judge::NoMemory;
-use rx_links::{Stop, Way};
+use rx_links::{Stop, Way, clause_of, clauses_of};
 use rx_syntax::{FieldTree, MessageTree, Named, Place, ThenTree};
 use rx_types::{Expr, FieldId, Operator};
 use std::alloc::Global;
@@ -147,28 +147,6 @@ fn either(
 }
 
 // ---- the place of a link
-
-fn clauses_of<'a>(start: &'a [ThenTree], fields: &'a [FieldTree], source: Stop) -> &'a [ThenTree]
-    ensures { result.now ≡ clauses_of start.now fields.now source }
-{
-    match source {
-        Stop::Start => start,
-        Stop::At(index) => match fields.get(index) {
-            Some(field) => field.thens.as_slice(),
-            None => &[],
-        },
-        Stop::Null => &[],
-    }
-}
-
-fn clause_of<'a>(thens: &'a [ThenTree], clause: Option<usize>) -> Option<&'a ThenTree>
-    ensures { option_copied result ≡ clause_of thens.now clause }
-{
-    match clause {
-        Some(index) => thens.get(index),
-        None => None,
-    }
-}
 
 // The place where the target is declared, or that of the message's name for what is no field.
 fn place_of_field(name: &Named, fields: &[FieldTree], target: Stop) -> Place

@@ -5,7 +5,7 @@ ghost use Rattle.rx_judge.specs.Meaning.{Tells, each_from};
 ghost use Rattle.rx_judge.specs.Table.{added};
 ghost use Rattle.rx_spec.specs.Messages.{kind_held, known_fields, type_held, field_meant};
 
-use rx_elab::Held;
+use rx_elab::{Held, Laying, overlay_in};
 use rx_graph::Field;
 use rx_judge::{Fault, FieldKind, KnownField, NoMemory, Table, spelled};
 use rx_syntax::FieldTree;
@@ -79,32 +79,34 @@ pub(crate) fn held_at(held: &[Held], index: usize) -> Option<Held>
 fn field_meant(
     alloc: Global,
     held: &[Held],
+    layings: &[Laying],
     index: usize,
     field: &FieldTree,
 ) -> Result<Field, Fault>
-    ensures meaning { IfOk result (λ f. field_meant held.now index field.now ≡ Ok f) }
-    ensures refusal { IfErr result (λ e. Tells e (field_meant held.now index field.now)) }
+    ensures meaning { IfOk result (λ f. field_meant held.now layings.now index field.now ≡ Ok f) }
+    ensures refusal { IfErr result (λ e. Tells e (field_meant held.now layings.now index field.now)) }
 {
     let name = spelled(alloc, &field.name)?;
     Ok(Field {
         name,
         kind: type_held(held_at(held, index)),
-        overlay: None,
+        overlay: overlay_in(layings, index),
     })
 }
 
-/// The fields with their types; 8 at a name that is none.
+/// The fields with their types and overlays; 8 at a name that is none.
 pub(crate) fn fields_meant(
     alloc: Global,
     held: &[Held],
+    layings: &[Laying],
     fields: &[FieldTree],
 ) -> Result<Vec<Field>, Fault>
-    ensures meaning { IfOk result (λ fs. each_from (field_meant held.now) 0 fields.now ≡ Ok fs.items) }
-    ensures refusal { IfErr result (λ e. Tells e (each_from (field_meant held.now) 0 fields.now)) }
+    ensures meaning { IfOk result (λ fs. each_from (field_meant held.now layings.now) 0 fields.now ≡ Ok fs.items) }
+    ensures refusal { IfErr result (λ e. Tells e (each_from (field_meant held.now layings.now) 0 fields.now)) }
 {
     let mut all = Vec::new(alloc);
     for (index, field) in fields.iter().enumerate() {
-        let meant = field_meant(alloc, held, index, field)?;
+        let meant = field_meant(alloc, held, layings, index, field)?;
         all.push(meant)?;
     }
     Ok(all)

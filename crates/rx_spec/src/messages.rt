@@ -3,11 +3,11 @@
 ghost use Rattle.std.specs.Prelude.{◌≡◌, ◌≤◌, ◌^◌, length, IfOk, IfErr};
 ghost use Rattle.rx_graph.specs.Graph.{arrows, graph_of};
 ghost use Rattle.rx_judge.specs.Meaning.{Tells};
+ghost use Rattle.rx_judge.specs.Names.{scope_of};
 ghost use Rattle.rx_links.specs.Cycle.{AreWithin};
-ghost use Rattle.rx_elab.specs.Parts.{message_parts_of};
 ghost use Rattle.rx_elab.specs.Types.{types_of};
-ghost use Rattle.rx_spec.specs.Kept.{parts_meant, body_shaped, body_kept};
-ghost use Rattle.rx_spec.specs.Messages.{links_meant, sized_links, body_of, graph_named, message_of, null_body};
+ghost use Rattle.rx_spec.specs.Kept.{body_kept};
+ghost use Rattle.rx_spec.specs.Messages.{scope_in, links_meant, sized_links, body_laid, body_shaped, body_of, graph_named, message_of, null_body};
 ghost use Rattle.rx_spec.specs.Shape.{shape_of_code};
 
 use crate::arrows::links_made;
@@ -15,68 +15,45 @@ use crate::body::Body;
 use crate::fields::{fields_meant, known_fields};
 use crate::shape::{Shape, shape_of};
 use crate::sizes::fields_sized;
-use rx_elab::{Held, MessageParts, Types, message_parts};
+use rx_elab::{Laying, Types, layings_of, message_parts};
 use rx_graph::{Link, Message, Node};
 use rx_judge::{Fault, NoMemory, Scope, spelled};
+use rx_links::Way;
 use rx_syntax::{HeaderTree, MessageTree, Named};
 use rx_types::Expr;
 use std::alloc::Global;
 
-fn parts_meant(
-    alloc: Global,
-    types: &Types,
-    header: &HeaderTree,
-    name: &Named,
-    message: &MessageTree,
-    held: &[Held],
-) -> Result<MessageParts, Fault>
-    requires { length message.now.fields.items ≤ 128 }
-    ensures meaning { IfOk result (λ ps. parts_meant (types_of types.now) header.now name.now message.now held.now ≡ Ok (message_parts_of ps)) }
-    ensures refusal { IfErr result (λ e. Tells e (parts_meant (types_of types.now) header.now name.now message.now held.now)) }
-{
-    let fields = known_fields(alloc, held, &message.fields)?;
-    let scope = Scope {
-        package: &header.name.word,
-        withs: &header.withs,
-        fields: &fields,
-        literals: &types.literals,
-    };
-    let parts = message_parts(alloc, &scope, &name.word, message)?;
-    Ok(parts)
-}
-
 fn links_meant(
     alloc: Global,
-    types: &Types,
-    header: &HeaderTree,
+    scope: &Scope<'_>,
+    layings: &[Laying],
     name: &Named,
     message: &MessageTree,
-    shape: &Shape,
+    ways: &[Way],
 ) -> Result<Vec<Link>, Fault>
-    requires few { length message.now.fields.items ≤ 128 }
-    requires within { AreWithin (length message.now.fields.items) shape.now.ways.items }
-    ensures meaning { IfOk result (λ ls. links_meant (types_of types.now) header.now name.now message.now (shape_of_code shape.now) ≡ Ok (arrows ls.items)) }
-    ensures refusal { IfErr result (λ e. Tells e (links_meant (types_of types.now) header.now name.now message.now (shape_of_code shape.now))) }
+    requires { AreWithin (2 ^ 16) ways.now }
+    ensures meaning { IfOk result (λ ls. links_meant (scope_of scope.now) layings.now name.now message.now ways.now ≡ Ok (arrows ls.items)) }
+    ensures refusal { IfErr result (λ e. Tells e (links_meant (scope_of scope.now) layings.now name.now message.now ways.now)) }
 {
-    let parts = parts_meant(alloc, types, header, name, message, &shape.held)?;
-    let links = links_made(alloc, name, message, &parts, &shape.ways)?;
+    let parts = message_parts(alloc, scope, layings, &name.word, message)?;
+    let links = links_made(alloc, name, message, &parts, ways)?;
     Ok(links)
 }
 
 fn sized_links(
     alloc: Global,
-    types: &Types,
-    header: &HeaderTree,
+    scope: &Scope<'_>,
+    layings: &[Laying],
     name: &Named,
     message: &MessageTree,
     shape: &Shape,
 ) -> Result<Vec<Link>, Fault>
     requires few { length message.now.fields.items ≤ 128 }
     requires within { AreWithin (length message.now.fields.items) shape.now.ways.items }
-    ensures meaning { IfOk result (λ ls. sized_links (types_of types.now) header.now name.now message.now (shape_of_code shape.now) ≡ Ok (arrows ls.items)) }
-    ensures refusal { IfErr result (λ e. Tells e (sized_links (types_of types.now) header.now name.now message.now (shape_of_code shape.now))) }
+    ensures meaning { IfOk result (λ ls. sized_links (scope_of scope.now) layings.now name.now message.now (shape_of_code shape.now) ≡ Ok (arrows ls.items)) }
+    ensures refusal { IfErr result (λ e. Tells e (sized_links (scope_of scope.now) layings.now name.now message.now (shape_of_code shape.now))) }
 {
-    let links = links_meant(alloc, types, header, name, message, shape)?;
+    let links = links_meant(alloc, scope, layings, name, message, &shape.ways)?;
     fields_sized(
         alloc,
         message.low_order,
@@ -87,7 +64,41 @@ fn sized_links(
     Ok(links)
 }
 
+fn body_laid(
+    alloc: Global,
+    scope: &Scope<'_>,
+    layings: &[Laying],
+    name: &Named,
+    message: &MessageTree,
+    shape: &Shape,
+) -> Result<Body, Fault>
+    requires few { length message.now.fields.items ≤ 128 }
+    requires within { AreWithin (length message.now.fields.items) shape.now.ways.items }
+    ensures meaning { IfOk result (λ b. body_laid (scope_of scope.now) layings.now name.now message.now (shape_of_code shape.now) ≡ Ok (body_kept b)) }
+    ensures refusal { IfErr result (λ e. Tells e (body_laid (scope_of scope.now) layings.now name.now message.now (shape_of_code shape.now))) }
+{
+    let fields = fields_meant(alloc, &shape.held, layings, &message.fields)?;
+    let links = sized_links(alloc, scope, layings, name, message, shape)?;
+    Ok(Body { fields, links })
+}
+
 fn body_shaped(
+    alloc: Global,
+    scope: &Scope<'_>,
+    name: &Named,
+    message: &MessageTree,
+    shape: &Shape,
+) -> Result<Body, Fault>
+    requires few { length message.now.fields.items ≤ 128 }
+    requires within { AreWithin (length message.now.fields.items) shape.now.ways.items }
+    ensures meaning { IfOk result (λ b. body_shaped (scope_of scope.now) name.now message.now (shape_of_code shape.now) ≡ Ok (body_kept b)) }
+    ensures refusal { IfErr result (λ e. Tells e (body_shaped (scope_of scope.now) name.now message.now (shape_of_code shape.now))) }
+{
+    let layings = layings_of(alloc, scope, message, &shape.ways)?;
+    body_laid(alloc, scope, &layings, name, message, shape)
+}
+
+fn body_within(
     alloc: Global,
     types: &Types,
     header: &HeaderTree,
@@ -97,12 +108,17 @@ fn body_shaped(
 ) -> Result<Body, Fault>
     requires few { length message.now.fields.items ≤ 128 }
     requires within { AreWithin (length message.now.fields.items) shape.now.ways.items }
-    ensures meaning { IfOk result (λ b. body_shaped (types_of types.now) header.now name.now message.now (shape_of_code shape.now) ≡ Ok (body_kept b)) }
-    ensures refusal { IfErr result (λ e. Tells e (body_shaped (types_of types.now) header.now name.now message.now (shape_of_code shape.now))) }
+    ensures meaning { IfOk result (λ b. body_shaped (scope_in (types_of types.now) header.now shape.now.held.items message.now) name.now message.now (shape_of_code shape.now) ≡ Ok (body_kept b)) }
+    ensures refusal { IfErr result (λ e. Tells e (body_shaped (scope_in (types_of types.now) header.now shape.now.held.items message.now) name.now message.now (shape_of_code shape.now))) }
 {
-    let fields = fields_meant(alloc, &shape.held, &message.fields)?;
-    let links = sized_links(alloc, types, header, name, message, shape)?;
-    Ok(Body { fields, links })
+    let fields = known_fields(alloc, &shape.held, &message.fields)?;
+    let scope = Scope {
+        package: &header.name.word,
+        withs: &header.withs,
+        fields: &fields,
+        literals: &types.literals,
+    };
+    body_shaped(alloc, &scope, name, message, shape)
 }
 
 fn body_of(
@@ -123,7 +139,7 @@ fn body_of(
         name,
         message,
     )?;
-    body_shaped(alloc, types, header, name, message, &shape)
+    body_within(alloc, types, header, name, message, &shape)
 }
 
 pub(crate) fn graph_named(
@@ -147,8 +163,8 @@ pub(crate) fn graph_named(
     })
 }
 
-/// What a message means: the refusals of its shape, then 8 at a field that has no name, then those of its expressions,
-/// then 14 and 19 at its fields.
+/// What a message means: the refusals of its shape, then 8 at a field that has no name, then those of its expressions
+/// and Firsts, then 14 and 19 at its fields.
 pub(crate) fn message_of(
     alloc: Global,
     types: &Types,

@@ -167,6 +167,43 @@ fn links_have_their_own_size_or_that_of_their_target(rt: HostRuntime) -> Result<
     Ok(())
 }
 
+const OVERLAY: &str = "package Q is
+   type U8 is unsigned 8;
+   type M is
+      message
+         A : U8
+            then C with First => A'First if A = 1
+            then B if A /= 1;
+         B : U8
+            then C with First => A'First;
+         C : U8;
+         D : U8 with First => C'Last + 9;
+      end message;
+end Q;";
+
+#[test]
+fn fields_lie_over_others(rt: HostRuntime) -> Result<(), Fail> {
+    let spec = match one(rt.alloc(), OVERLAY)? {
+        Ok(spec) => spec,
+        Err(_) => return Err(Fail::new("the message is refused")),
+    };
+    let message = message_at(&spec, 0)?;
+    let first = message.fields.first().map(|field| field.overlay);
+    assert_eq!(rt; first, Some(None));
+    let over = message.fields.get(2).map(|field| field.overlay);
+    assert_eq!(rt; over, Some(Some(0)));
+    let last = message.fields.last().map(|field| field.overlay);
+    assert_eq!(rt; last, Some(None));
+    assert!(rt; matches!(link_at(message, 1)?.first, Some(Expr::First(0))));
+    assert!(rt;
+        matches!(
+            link_at(message, 4)?.first,
+            Some(Expr::Binary(Operator::Add, _, _))
+        )
+    );
+    Ok(())
+}
+
 #[test]
 fn null_messages_have_one_link(rt: HostRuntime) -> Result<(), Fail> {
     let spec = frame(rt.alloc())?;
