@@ -1,6 +1,7 @@
 -- The path limit of a message.
 --   IsOut m node out     none, one or two links of the node, in their order
 --   KeepsLimit           each path from the start, with such links of its end, stays within the limit
+--   MayBeChecked         the message is elaborated, and keeps the limit
 --   keeps_limit          the same, told by the list of all paths and links
 use Rattle.std.specs.Prelude.{◌≡◌, ◌<◌, ℕ, ◌+◌, Bool, true, false, not, List, [], ◌∷◌, ◌++◌, length, map, if◌then◌else◌}
 use Rattle.std.specs.List.{list_all}
@@ -11,6 +12,7 @@ use Rattle.rx_graph.specs.declared.message.Field.{Field}
 use Rattle.rx_graph.specs.Graph.{Arrow, Graph}
 use Rattle.rx_graph.specs.Checks.{is_node}
 use Rattle.rx_graph.specs.Cycles.{IsLink, IsPath}
+use Rattle.rx_graph.specs.Elaborated.{IsElaborated}
 use Rattle.rx_graph.specs.Onward.{onward}
 use Rattle.rx_forms.specs.Gathered.{passes_limit}
 
@@ -27,6 +29,10 @@ IsOut m node (i ∷ j ∷ k ∷ out) = ⊥
 -- the message stays within the path limit
 abbrev pub KeepsLimit : List Domain → Graph → Type 0
 KeepsLimit domains m = (node : Node) (path out : List ℕ) → IsPath m Start path node → IsOut m node out → passes_limit domains m path out ≡ false
+
+pub record MayBeChecked (domains : List Domain) (m : Graph) : Type 0 where
+  pub elaborated : IsElaborated domains m
+  pub limit : KeepsLimit domains m
 
 -- ---- the same by lists
 

@@ -15,7 +15,8 @@ use Rattle.rx_graph.specs.Elaborated.{IsSound}
 use Rattle.rx_graph.proofs.Sound.{exclusive_from_checks}
 use Rattle.rx_forms.proofs.Typed.{links_formable, links_narrow}
 use Rattle.rx_checks.proofs.Soundness.{show_soundness}
-use Rattle.rx_report.specs.Reported.{MayBeChecked, messages_of, Passes, IsReported, HasOpen}
+use Rattle.rx_forms.specs.PathLimit.{MayBeChecked}
+use Rattle.rx_report.specs.Reported.{messages_of, Passes, IsReported, HasOpen}
 use Rattle.rx_report.specs.declared.reported.Reported.{Reported}
 use Rattle.rx_spec.specs.Elaboration.{elaborated}
 use Rattle.rx_spec.specs.Laws.{IsSoundSpec, domains_in}

@@ -6,9 +6,7 @@
 use Rattle.std.specs.Prelude.{◌≡◌, ◌<◌, ◌⊎◌, ℕ, List, [], ◌∷◌, ◌++◌, filter}
 use Rattle.std.specs.Str.{str_eq_ignore_ascii_case}
 use Rattle.rx_types.specs.Domain.{Domain}
-use Rattle.rx_graph.specs.Elaborated.{IsElaborated}
 use Rattle.rx_graph.specs.Graph.{Graph}
-use Rattle.rx_forms.specs.PathLimit.{KeepsLimit}
 use Rattle.rx_checks.specs.declared.report.Report.{Report}
 use Rattle.rx_checks.specs.Reports.{IsReport, AllPassed}
 use Rattle.rx_report.specs.declared.reported.Reported.{Reported}
@@ -26,11 +24,6 @@ counts_in r = record { passed = r.passed; failed = r.failed; undecided = r.undec
 -- some check did not pass
 abbrev pub HasOpen : Reported → Type 0
 HasOpen r = (0 < r.failed) ⊎ (0 < r.undecided)
-
--- the message is elaborated, and stays within the path limit
-pub record MayBeChecked (domains : List Domain) (m : Graph) : Type 0 where
-  pub elaborated : IsElaborated domains m
-  pub limit : KeepsLimit domains m
 
 module _ (domains : List Domain) (splits : ℕ) where
   pub record Passes (m : Graph) : Type 0 where

@@ -4,7 +4,8 @@ ghost use Rattle.std.specs.Prelude.{◌≡◌, ◌∷◌, ◌≤◌, [], Some, I
 ghost use Rattle.std.specs.List.{AllByRecursion};
 ghost use Rattle.rx_types.specs.Domain.{Domain, boolean};
 ghost use Rattle.rx_graph.specs.Graph.{domains_of, graph_of};
-ghost use Rattle.rx_report.specs.Reported.{messages_of, MayBeChecked, IsReported, Examines};
+ghost use Rattle.rx_forms.specs.PathLimit.{MayBeChecked};
+ghost use Rattle.rx_report.specs.Reported.{messages_of, IsReported, Examines};
 
 use crate::fault::NoMemory;
 use crate::reported::{Examined, Reported};
