@@ -1,8 +1,10 @@
--- How much room a valuation needs, and what kinds of values it has.
+-- How much room a valuation needs, what kinds of values it has, and what stays of a buffer.
 --   IsAtMost p values n     the message that the valuation makes has at most so many bytes
 --   IsOfKind t c            a number where the field is a scalar, else bytes
 --   HaveKinds p values      each value has the kind of its field
-use Rattle.std.specs.Prelude.{◌≡◌, ℕ, ◌≤◌, List, Option, Some, None, IsSome}
+--   KeepsBehind n old new   the buffer is as long as it was, and no bit behind its first n bytes has changed
+use Rattle.std.specs.Prelude.{◌≡◌, ℕ, ◌*◌, ◌≤◌, List, length, Option, Some, None, IsSome}
+use Rattle.rx_bits.specs.Outside.{SameOutside}
 use Rattle.rx_types.specs.Domain.{Domain}
 use Rattle.rx_graph.specs.Fits.{Content, Number, Bytes, Assigned, content_of, length_of}
 use Rattle.rx_graph.specs.Graph.{Graph, type_of}
@@ -17,3 +19,7 @@ IsOfKind t (Bytes bytes) = t ≡ None
 
 abbrev pub HaveKinds : Planned → List Assigned → Type 0
 HaveKinds p values = (domains : List Domain) (m : Graph) (f : ℕ) (c : Content) → StandsFor domains m p → content_of f values ≡ Some c → IsOfKind (type_of domains m f) c
+
+pub record KeepsBehind (n : ℕ) (old new : List ℕ) : Type 0 where
+  pub long : length new ≡ length old
+  pub bits : SameOutside 0 (8 * n) old new

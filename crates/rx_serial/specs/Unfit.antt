@@ -4,14 +4,14 @@
 --   IsUnused          the valuation names a field that the path lacks
 --   IsUnfit values    the first refusal of the walk, in a message as long as the valuation makes
 --   Tells values had why    why the valuation is not written into a buffer of so many bytes
-use Rattle.std.specs.Prelude.{◌≡◌, ℕ, ◌*◌, ◌<◌, ◌≤◌, pos, List, [], length, Option, Some, None, IsSome}
+use Rattle.std.specs.Prelude.{◌≡◌, ℕ, ◌*◌, ◌<◌, ◌≤◌, pos, List, [], length, Some, None, IsSome}
 use Rattle.std.specs.List.{AllByRecursion}
 use Rattle.rx_types.specs.Domain.{Domain, IsNumberOf}
 use Rattle.rx_types.specs.Environment.{Placed, Environment, in_message, IsAmong}
 use Rattle.rx_graph.specs.declared.message.Node.{Node}
 use Rattle.rx_graph.specs.Checks.{size_to}
 use Rattle.rx_graph.specs.Cycles.{IsLink}
-use Rattle.rx_graph.specs.Fits.{Content, Number, Bytes, Assigned, content_of, number_or_zero, IsContent, Agrees, AllAgree, length_of}
+use Rattle.rx_graph.specs.Fits.{Number, Bytes, Assigned, content_of, number_or_zero, IsContent, Agrees, AllAgree, length_of}
 use Rattle.rx_graph.specs.Graph.{Arrow, Graph, type_of}
 use Rattle.rx_graph.specs.Paths.{first_of, IsTrue, LiesWithin, placed_by, IsPartial, Ends}
 use Rattle.rx_graph.specs.Stuck.{field_of}

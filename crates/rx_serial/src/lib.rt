@@ -2,5 +2,14 @@
 #![tactic(auto)]
 
 mod fault;
+mod filling;
+mod laws;
+mod measuring;
+mod writing;
 
 pub use fault::{Unfit, UnfitReason, WriteFault};
+pub use laws::{
+    unfit_valuations_fit_no_path, unfit_valuations_have_one_refusal, valuations_have_one_buffer,
+};
+pub use measuring::room;
+pub use writing::write;
