@@ -1,0 +1,3 @@
+pub mod FirstOnes
+pub mod OneReport
+pub mod Soundness
