@@ -1,5 +1,5 @@
 -- A message is sound where every line of a report of it has passed.
-use Rattle.std.proofs.Common.{◌≡◌, refl, sym, ap, subst, ◌∙◌, ℕ, zero, suc, ◌<◌, arith, List, [], ◌∷◌, map, length, Bool, true, false, inl, inr}
+use Rattle.std.proofs.Common.{◌≡◌, sym, subst, ℕ, zero, suc, ◌<◌, arith, List, [], ◌∷◌, map, length, Bool, true, false, inl, inr}
 use Rattle.std.specs.Prelude.{Contains, slice_index_or}
 use Rattle.std.specs.List.{AllByRecursion}
 use Rattle.rx_types.specs.Domain.{Domain}
@@ -18,7 +18,7 @@ use Rattle.rx_layout.specs.declared.goal.Goal.{Goal}
 use Rattle.rx_layout.specs.Goals
 use Rattle.rx_layout.specs.Goals.{source, is_universal, IsGoal, MetBy, GoalHolds, AllGoalsHold}
 use Rattle.rx_layout.specs.QueryOf.{query_for}
-use Rattle.rx_layout.specs.Listed.{Among, all_goals}
+use Rattle.rx_layout.specs.Listed.{Among}
 use Rattle.rx_layout.proofs.Whole.{goals_point}
 use Rattle.rx_layout.proofs.Listing.{goals_are_listed}
 use Rattle.rx_layout.proofs.Holding.{all_hold}
