@@ -78,7 +78,7 @@ module _ (ask : code.Ask) (p : Packages) (spec : Spec) (m : Graph) where
         graph = m;
         finds = finds;
         reported_is = subst (λ (ds : List Domain). IsReported ds ask.splits (m ∷ []) reported) (sym (domains_same spec)) is;
-        open = open;
+        not_passed = open;
       })
 
 -- all messages of the package are checked

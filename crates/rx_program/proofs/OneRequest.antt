@@ -139,7 +139,7 @@ module _ (r : Request) (input : List ℕ) where
   view (Broken file q) sound is = rule file q is refl
   view (NoMessage n k) sound is = lacks k is.1 (ap (λ x. NoMessage x k) is.0)
   view (Checked x) sound is = checks x is refl
-  view (Rejected x) sound is = finds is.spec is.graph is.finds (rejects x is.reported_is is.open refl)
+  view (Rejected x) sound is = finds is.spec is.graph is.finds (rejects x is.reported_is is.not_passed refl)
   view SourceFault sound is = absurd (let no : true ≡ false = sound in cc)
   view InputLimit sound is = finds is.0.0 is.0.1 is.0.2.finds (too_long is.0.2.passes is.1 refl)
   view (Input d) sound is = finds is.0 is.1 is.2.finds (decodes d is.2.passes is.3 is.4 refl)

@@ -79,7 +79,7 @@ module _ (r : Request) where
     pub graph : Graph
     pub finds : Finds spec graph
     pub reported_is : IsReported (domains_in spec) r.ask.splits (graph ∷ []) reported
-    pub open : HasOpen reported
+    pub not_passed : HasOpen reported
 
   -- the message that is asked for, all of whose checks pass
   pub record Serves (s : Specified) (m : Graph) : Type 0 where

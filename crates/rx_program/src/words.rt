@@ -1,8 +1,7 @@
 //! What the words of a command ask for.
-ghost use Rattle.std.specs.Prelude.{◌≡◌, ◌≤◌, Some, true, IfOk, IfSome, IfNone, map, string_bytes, option_and_then};
+ghost use Rattle.std.specs.Prelude.{◌≡◌, ◌≤◌, Some, None, true, IfOk, IfSome, IfNone, map, string_bytes};
 ghost use Rattle.rx_words.specs.Names.{is_name};
 ghost use Rattle.rx_words.specs.Read.{wanted_of};
-ghost use Rattle.rx_words.specs.Words.{form_of};
 ghost use Rattle.rx_program.specs.Words.{ask_with, asked_for, HaveNoForm};
 ghost use Rattle.rx_program.specs.Asked.{ask_of, HasNames};
 
@@ -37,8 +36,9 @@ fn name_of(alloc: Global, text: &str) -> Result<Name, NoMemory>
 // What a request asks for, if it is served.
 fn ask_by(alloc: Global, request: Request<'_>) -> Result<Option<Ask>, NoMemory>
     requires { HasNames (wanted_of request).command }
-    ensures some { IfOk result (λ read. IfSome read (λ ask. ask_with (wanted_of request).splits (wanted_of request).command ≡ Some (ask_of ask))) }
-    ensures none { IfOk result (λ read. IfNone read (ask_with (wanted_of request).splits (wanted_of request).command ≡ None)) }
+    ensures some { IfOk result (λ read. IfSome read (λ ask. ask_with (wanted_of request.entry).splits (wanted_of request.entry).command ≡ Some (ask_of ask))) }
+    ensures few { IfOk result (λ read. IfSome read (λ ask. ask.splits ≡ (wanted_of request.entry).splits)) }
+    ensures none { IfOk result (λ read. IfNone read (ask_with (wanted_of request.entry).splits (wanted_of request.entry).command ≡ None)) }
 {
     let splits = request.splits;
     match request.command {
