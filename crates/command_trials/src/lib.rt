@@ -1,5 +1,9 @@
-//! Trials of whole commands at their limits, over objects in memory.
+//! Trials of whole commands over objects in memory: at their limits, and each check.
 #![tactic(auto)]
 
+#[cfg(test)]
+mod checked;
+#[cfg(test)]
+mod commands;
 #[cfg(test)]
 mod longest;
