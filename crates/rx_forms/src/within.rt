@@ -5,7 +5,7 @@ ghost use Rattle.rx_types.specs.Domain.{Domain, boolean};
 ghost use Rattle.rx_graph.specs.Elaborated.{IsElaborated};
 ghost use Rattle.rx_graph.specs.Graph.{domains_of, graph_of};
 ghost use Rattle.rx_forms.specs.Code.{domains_in};
-ghost use Rattle.rx_forms.specs.PathLimit.{keeps_limit, LimitIsKept};
+ghost use Rattle.rx_forms.specs.PathLimit.{keeps_limit, LimitIsKept, HasFewPaths};
 
 use crate::fault::NoMemory;
 use rx_graph::{Message, Scalar, Spec};
@@ -25,4 +25,10 @@ pub fn keeps_limit(alloc: Global, message: &Message, scalars: &[Scalar]) -> Resu
 pub fn limit_is_kept(spec: &Spec, message: &Message)
     requires elaborated { IsElaborated (domains_of spec.now) (graph_of message.now) }
     ensures { LimitIsKept (domains_of spec.now) (graph_of message.now) }
+{}
+
+/// At most 4,096 paths lead to any node of the message, since each goes on to null.
+pub fn paths_to_nodes_are_few(spec: &Spec, message: &Message)
+    requires elaborated { IsElaborated (domains_of spec.now) (graph_of message.now) }
+    ensures { HasFewPaths (graph_of message.now) }
 {}
