@@ -12,10 +12,11 @@ use Rattle.rx_types.specs.Domain.{Domain, EachPair}
 use Rattle.rx_graph.specs.declared.message.Node.{Node}
 use Rattle.rx_graph.specs.declared.message.Node.TheVariants.{Start, At, Null}
 use Rattle.rx_graph.specs.Graph.{Arrow, Graph}
-use Rattle.rx_graph.specs.Cycles.{IsLink, IsPath, HasNoCycle, Precedes, ArePathsTo, HasPathsUpTo}
+use Rattle.rx_graph.specs.Cycles.{IsLink, IsPath, HasNoCycle, Precedes, ArePathsTo, HasPathsUpTo, HasMorePathsTo}
 use Rattle.rx_graph.specs.Elaborated.{IsElaborated, IsTarget, GoesOn}
 use Rattle.rx_graph.specs.Onward.{onward}
 use Rattle.rx_graph.proofs.Listed.{listed}
+use Rattle.rx_graph.proofs.OneList.{one_list}
 use Rattle.rx_graph.proofs.Distinct.{members_below, not_true, nothing}
 
 -- ---- lists in order, of which one holds the other
@@ -178,3 +179,6 @@ module _ (domains : List Domain) (m : Graph) (made : IsElaborated domains m) whe
   few_paths node =
       let are = listed m node made.acyclic in
       (onward m.links (length m.links) node Start, are, at_most node (onward m.links (length m.links) node Start) are)
+
+pub never_more : (m : Graph) (node : Node) (n : ℕ) → HasPathsUpTo m node n → HasMorePathsTo m node n → ⊥
+never_more m node n few more = absurd (omega (arith, few.2, more.2, ap length (one_list m node few.0 more.0 few.1 more.1)))

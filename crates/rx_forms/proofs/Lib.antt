@@ -1,5 +1,6 @@
 pub mod Along
 pub mod Asked
+pub mod Asking
 pub mod Aspects
 pub mod Building
 pub mod Carrying

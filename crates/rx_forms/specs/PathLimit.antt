@@ -45,6 +45,10 @@ ones_and_pairs (i ∷ is) = (i ∷ []) ∷ (map (λ j. i ∷ j ∷ []) is ++ one
 abbrev pub outs : Graph → Node → List (List ℕ)
 outs m node = [] ∷ ones_and_pairs (numbers_from node 0 m.links)
 
+-- the path stays within the limit, with none, one or two of these links
+abbrev pub keeps_path : List Domain → Graph → List ℕ → List ℕ → Bool
+keeps_path domains m numbers path = list_all (λ out. not (passes_limit domains m path out)) ([] ∷ ones_and_pairs numbers)
+
 -- each path from the start to the node stays within the limit, with each choice of links
 abbrev pub keeps_limit_at : List Domain → Graph → Node → Bool
 keeps_limit_at domains m node = list_all (λ path. list_all (λ out. not (passes_limit domains m path out)) (outs m node)) (onward m.links (length m.links) node Start)
