@@ -1,8 +1,8 @@
 -- Choices of links, asked one after the other, and each with those behind it.
-use Rattle.std.proofs.Common.{◌≡◌, refl, sym, ap, ◌∙◌, ℕ, zero, suc, ◌+◌, ◌<◌, ◌≤◌, List, [], ◌∷◌, ◌++◌, map, length, drop, get_or, Bool, true, false, not, ◌&&◌, nat_le, Option, Some, None, arith}
+use Rattle.std.proofs.Common.{◌≡◌, refl, sym, ap, ◌∙◌, ℕ, zero, suc, ◌+◌, ◌-◌, ◌<◌, ◌≤◌, List, [], ◌∷◌, ◌++◌, map, length, take, drop, get_or, Bool, true, false, not, ◌&&◌, nat_le, Option, Some, None, arith}
 use Rattle.std.specs.Prelude.{if◌then◌else◌}
 use Rattle.std.specs.List.{list_all}
-use Rattle.std.proofs.lemmas.List.{drop_more}
+use Rattle.std.proofs.lemmas.List.{drop_more, take_all, length-drop}
 use Rattle.std.proofs.lemmas.List.Folds.{list_all-append, list_all-map}
 use Rattle.rx_types.specs.Domain.{Domain}
 use Rattle.rx_graph.specs.Graph.{Arrow, Graph}
@@ -36,6 +36,9 @@ same_item (x ∷ xs) (suc k) h = get_or_same xs k 0 (get_or xs k 0) (omega (arit
     get_or_same [] j d e lt = absurd (omega (arith, lt))
     get_or_same (y ∷ ys) zero d e lt = refl
     get_or_same (y ∷ ys) (suc j) d e lt = get_or_same ys j d e (omega (arith, lt))
+
+pub rest_is : (xs : List ℕ) (k : ℕ) → take (length xs - k) (drop k xs) ≡ drop k xs
+rest_is xs k = take_all (length xs - k) (drop k xs) (omega (arith, length-drop k xs))
 
 same_tests : {X : Type 0} (p q : X → Bool) (xs : List X) → ((x : X) → p x ≡ q x) → list_all p xs ≡ list_all q xs
 same_tests p q [] h = refl

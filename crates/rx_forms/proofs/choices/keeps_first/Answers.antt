@@ -5,7 +5,7 @@ use Rattle.rx_forms.specs.Code.{domains_in, formed_all}
 use Rattle.rx_forms.specs.Gathered.{past}
 use Rattle.rx_forms.specs.Steps.{links_on}
 use Rattle.rx_forms.specs.Choices.{conditions_within}
-use Rattle.rx_forms.proofs.Chosen.{alone_at, choices, is_some, room_behind, first_fails, first_plain, first_divides}
+use Rattle.rx_forms.proofs.Chosen.{alone_at, choices, is_some, room_behind, first_fails, first_plain, first_divides, rest_is}
 use Rattle.rx_forms.proofs.choices.keeps_first.Goals as goal
 
 pub keeps_ones-requires : goal.keeps_ones-requires
@@ -23,16 +23,16 @@ pub returns-in-None : goal.returns-in-None
 returns-in-None c =
     first_fails (domains_in c.args.scalars.now) (graph_of c.args.message.now) (formed_all c.args.fields.now) c.args.next c.args.numbers.now c.args.place c.requires.place (sym c.in-None.is ∙ c.in_ok-after.ensures)
 
-pub returns-then-after-eq-next : goal.returns-then-after-eq-next
-returns-then-after-eq-next c =
-    first_plain (domains_in c.args.scalars.now) (graph_of c.args.message.now) (formed_all c.args.fields.now) c.args.next c.args.numbers.now c.args.place c.in-Some.after c.requires.place (sym c.in-Some.is ∙ c.in_ok-after.ensures) c.if-after-eq-next.true
+pub returns-then-after-next : goal.returns-then-after-next
+returns-then-after-next c =
+    first_plain (domains_in c.args.scalars.now) (graph_of c.args.message.now) (formed_all c.args.fields.now) c.args.next c.args.numbers.now c.args.place c.in-Some.after c.requires.place (sym c.in-Some.is ∙ c.in_ok-after.ensures) c.if-after-next.true
 
 kept_on : {E : Type 0} (r : Result Bool E) (total tests rest : Bool) → ((kept : Bool) → kept ≡ tests → total ≡ (kept && rest)) → IfOk r (λ kept. kept ≡ tests) → IfOk r (λ kept. total ≡ (kept && rest))
 kept_on (Ok kept) total tests rest f h = f kept h
 kept_on (Err e) total tests rest f h = tt
 
-pub returns : goal.returns
-returns c =
+pub returns-else-after-next : goal.returns-else-after-next
+returns-else-after-next c =
     let domains = domains_in c.args.scalars.now in
     let m = graph_of c.args.message.now in
     let fields = formed_all c.args.fields.now in
@@ -40,4 +40,4 @@ returns c =
     (list_all (alone_at domains m fields c.args.next c.in-Some.after) (drop (c.args.place + 1) c.args.numbers.now))
     (choices domains m fields c.args.next (drop (c.args.place + 1) c.args.numbers.now))
     (λ kept k. first_divides domains m fields c.args.next c.args.numbers.now c.args.place c.in-Some.after kept c.requires.place (sym c.in-Some.is ∙ c.in_ok-after.ensures) k)
-    c.keeps_ones.ensures
+    (subst (λ (l : List ℕ). IfOk c.keeps_ones.result (λ kept. kept ≡ list_all (alone_at domains m fields c.args.next c.in-Some.after) l)) (rest_is c.args.numbers.now (c.args.place + 1)) c.keeps_ones.ensures)
