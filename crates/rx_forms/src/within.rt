@@ -38,11 +38,7 @@ pub fn keeps_limit(alloc: Global, message: &Message, scalars: &[Scalar]) -> Resu
 }
 
 // Whether the paths to fields do.
-fn keeps_at_fields(
-    alloc: Global,
-    message: &Message,
-    scalars: &[Scalar],
-) -> Result<bool, NoMemory>
+fn keeps_at_fields(alloc: Global, message: &Message, scalars: &[Scalar]) -> Result<bool, NoMemory>
     requires elaborated { IsElaborated (domains_in scalars.now) (graph_of message.now) }
     requires boolean { (d : Domain) → slice_get (domains_in scalars.now) 0 ≡ Some d → d ≡ boolean }
     ensures { IfOk result (λ kept. kept ≡ list_all (keeps_limit_at (domains_in scalars.now) (graph_of message.now)) (fields_from 0 message.now.fields.items)) }
