@@ -4,6 +4,7 @@
 mod arithmetic;
 mod aspect;
 mod builder;
+mod choices;
 mod condition;
 mod division;
 mod entry;
@@ -33,5 +34,5 @@ pub use laws::{
 };
 pub use linear::{Form, Linear};
 pub use number::number_form;
-pub use within::keeps_limit;
+pub use within::{keeps_limit, limit_is_kept, paths_to_nodes_are_few};
 pub use work::Work;
