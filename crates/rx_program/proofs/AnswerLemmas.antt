@@ -72,13 +72,13 @@ module _ (ask : code.Ask) (p : Packages) (spec : Spec) (m : Graph) where
   -- some check of the message did not pass
   pub answers_rejected : (input : Option (List ℕ)) (reported : Reported) → Finds request (spec_of spec) m → IsReported (domains_of spec) ask.splits (m ∷ []) reported → HasOpen reported
       → IfSome input (λ left. AnswersTo request left (answer.Rejected reported))
-  answers_rejected input reported finds is open =
+  answers_rejected input reported finds is unmet =
       told_any input request (answer.Rejected reported) (λ left. record {
         spec = spec_of spec;
         graph = m;
         finds = finds;
         reported_is = subst (λ (ds : List Domain). IsReported ds ask.splits (m ∷ []) reported) (sym (domains_same spec)) is;
-        not_passed = open;
+        not_passed = unmet;
       })
 
 -- all messages of the package are checked

@@ -70,7 +70,7 @@ nothing_open x failed undecided (inl more) = absurd (omega arith)
 nothing_open x failed undecided (inr more) = absurd (omega arith)
 
 pub passes_not_open : (domains : List Domain) (splits : ℕ) (m : Graph) (x : Reported) → Passes domains splits m → IsReported domains splits (m ∷ []) x → HasOpen x → ⊥
-passes_not_open domains splits m x passes is open =
+passes_not_open domains splits m x passes is unmet =
     let counts = is.counts ∙ reports_counted domains splits (m ∷ []) is.reports (passes.report ∷ []) none_counted is.are (passes.is, tt) in
     let clean = clean_all passes.report.lines.items none_counted passes.passed in
-    nothing_open x (ap (λ (c : Counts). c.failed) counts ∙ clean.failed) (ap (λ (c : Counts). c.undecided) counts ∙ clean.undecided) open
+    nothing_open x (ap (λ (c : Counts). c.failed) counts ∙ clean.failed) (ap (λ (c : Counts). c.undecided) counts ∙ clean.undecided) unmet

@@ -157,13 +157,13 @@ module _ (r : Request) (input : List ℕ) where
   checked_same a b x y same e e' = subst (λ (k : Answer). IsSame k b) (sym e) (subst (IsSame (Checked x)) (sym e') same)
 
   late_same : (s : Specified) (m : Graph) (a b : Answer) → Finds r s m → Late s m a → Late s m b → IsSame a b
-  late_same s m a b f (rejects x is open e) (rejects y is' open' e') = rejected_same a b x y (reported_same (domains_in s) r.ask.splits (m ∷ []) x y is is') e e'
-  late_same s m a b f (rejects x is open e) (too_long p more e') = absurd (passes_not_open (domains_in s) r.ask.splits m x p is open)
-  late_same s m a b f (rejects x is open e) (decodes d p few is' e') = absurd (passes_not_open (domains_in s) r.ask.splits m x p is open)
-  late_same s m a b f (too_long p more e) (rejects y is open e') = absurd (passes_not_open (domains_in s) r.ask.splits m y p is open)
+  late_same s m a b f (rejects x is unmet e) (rejects y is' unmet' e') = rejected_same a b x y (reported_same (domains_in s) r.ask.splits (m ∷ []) x y is is') e e'
+  late_same s m a b f (rejects x is unmet e) (too_long p more e') = absurd (passes_not_open (domains_in s) r.ask.splits m x p is unmet)
+  late_same s m a b f (rejects x is unmet e) (decodes d p few is' e') = absurd (passes_not_open (domains_in s) r.ask.splits m x p is unmet)
+  late_same s m a b f (too_long p more e) (rejects y is unmet e') = absurd (passes_not_open (domains_in s) r.ask.splits m y p is unmet)
   late_same s m a b f (too_long p more e) (too_long p' more' e') = same_both a b InputLimit e e'
   late_same s m a b f (too_long p more e) (decodes d p' few is e') = absurd (omega arith)
-  late_same s m a b f (decodes d p few is e) (rejects y is' open e') = absurd (passes_not_open (domains_in s) r.ask.splits m y p is' open)
+  late_same s m a b f (decodes d p few is e) (rejects y is' unmet e') = absurd (passes_not_open (domains_in s) r.ask.splits m y p is' unmet)
   late_same s m a b f (decodes d p few is e) (too_long p' more e') = absurd (omega arith)
   late_same s m a b f (decodes d p few is e) (decodes d' p' few' is' e') =
       let sound = sound_of r.asked r.trees s r.ask.name f.name m r.ask.splits f.means.meaning f.found p in

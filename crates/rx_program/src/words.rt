@@ -3,7 +3,8 @@ ghost use Rattle.std.specs.Prelude.{◌≡◌, ◌≤◌, Some, None, true, IfOk
 ghost use Rattle.rx_words.specs.Names.{is_name};
 ghost use Rattle.rx_words.specs.Read.{wanted_of};
 ghost use Rattle.rx_program.specs.Words.{ask_with, asked_for, HaveNoForm};
-ghost use Rattle.rx_program.specs.Asked.{ask_of, HasNames};
+ghost use Rattle.rx_words.specs.Words.{HasNames};
+ghost use Rattle.rx_program.specs.Asked.{ask_of};
 
 use crate::fault::NoMemory;
 use rx_types::Name;

@@ -2,14 +2,15 @@
 --   Asked, Wanted               a command with its names and numbers; the same with its splits
 --   words_from stage g words    what the words give to the operand and the options
 --   judged command g            what is asked for by what was given
+--   HasNames                    the names of a command are names
 --   form_of words               what the words ask for, if they have a command's form
-use Rattle.std.specs.Prelude.{ℕ, Bool, ◌==◌, List, [], ◌∷◌, Option, Some, None, if◌then◌else◌, codes, option_map, option_and_then}
+use Rattle.std.specs.Prelude.{◌≡◌, ℕ, Bool, true, ◌==◌, List, [], ◌∷◌, Option, Some, None, if◌then◌else◌, codes, option_map, option_and_then}
 use Rattle.std.specs.List.{list_any, before_first, after_first}
 use Rattle.std.specs.Str.{bytes_eq}
 use Rattle.rx_words.specs.declared.line.CommandName.{CommandName}
 use Rattle.rx_words.specs.declared.line.CommandName.TheVariants as code
 use Rattle.rx_words.specs.Form.{Text, Slot, operand, Given, nothing_given, Stage, any_word, value_of, operands, give, stay, after_option, option_named, at_end, command_named}
-use Rattle.rx_words.specs.Names.{named, pair_in}
+use Rattle.rx_words.specs.Names.{is_name, named, pair_in}
 use Rattle.rx_words.specs.Numbers.{number_in}
 
 -- a command with its names and numbers
@@ -103,3 +104,12 @@ judged name g = do
 abbrev pub form_of : List Text → Option Wanted
 form_of [] = None
 form_of (word ∷ rest) = command_named word >>= (λ name. words_from any_word nothing_given rest >>= judged name)
+
+-- ---- what holds of it
+
+abbrev pub HasNames : Asked → Type 0
+HasNames (Check name) = is_name name ≡ true
+HasNames (Decode name message further) = (is_name name ≡ true) × (is_name message ≡ true)
+HasNames (Encode name message) = (is_name name ≡ true) × (is_name message ≡ true)
+HasNames (Run name machine) = (is_name name ≡ true) × (is_name machine ≡ true)
+HasNames (Load count) = Unit {0}
