@@ -19,19 +19,23 @@ mod number;
 mod within;
 mod work;
 
+pub use arithmetic::{constant, copy, minus, one_less, term};
 pub use aspect::{first_form, size_form};
 pub use builder::{Builder, add_condition, add_link, start};
 pub use condition::condition_form;
 pub use division::divide;
+pub use entry::{size_of, variable_form, variable_of};
 pub use fault::{FormFault, NoMemory};
 pub use field::FieldForms;
 pub use forms::{Forms, finish, forms_of, forms_with};
+pub use gather::{gather_fields, scalars_along};
+pub use interval::{interval as interval_of, scalar_type};
 pub use laws::{
     facts_hold_where_conditions_do, links_have_forms, partial_paths_make_rows,
     quotients_solve_divisions, rows_hold_of_quotients, rows_leave_quotients_no_choice,
     rows_make_paths_partial, sums_have_values,
 };
 pub use linear::{Form, Linear};
-pub use number::number_form;
-pub use within::{keeps_limit, limit_is_kept};
+pub use number::{bits, number_form};
+pub use within::keeps_limit;
 pub use work::Work;

@@ -1,5 +1,6 @@
 pub mod Along
 pub mod Asking
+pub mod Checking
 pub mod Covering
 pub mod Cuts
 pub mod Domains
