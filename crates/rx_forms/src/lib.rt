@@ -19,7 +19,7 @@ mod number;
 mod within;
 mod work;
 
-pub use arithmetic::{constant, copy, minus, one_less, term};
+pub use arithmetic::{constant, copy, minus, term};
 pub use aspect::{first_form, size_form};
 pub use builder::{Builder, add_condition, add_link, start};
 pub use condition::condition_form;
