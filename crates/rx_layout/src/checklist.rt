@@ -102,8 +102,8 @@ fn add_check(
     Ok(())
 }
 
-// Whether a link leads from a node.
-fn leaves(node: Node, link: &Link) -> bool
+/// Whether a link leads from a node.
+pub fn leaves(node: Node, link: &Link) -> bool
     ensures { result ≡ is_node node (arrow_of link.now).source }
 {
     match (node, link.source) {
@@ -249,8 +249,8 @@ fn add_places(
     add_checks(LinkCheck::Whole, message, scalars, goals)
 }
 
-// All goals, in order.
-fn add_all(message: &Message, scalars: &[Scalar], goals: &mut Vec<Goal>) -> Result<(), NoMemory>
+/// Adds all goals of a message, in order.
+pub fn add_all(message: &Message, scalars: &[Scalar], goals: &mut Vec<Goal>) -> Result<(), NoMemory>
     requires few { length message.now.links.items ≤ 512 }
     requires fields { length message.now.fields.items ≤ 128 }
     ensures { OnOk result (goals.new.items ≡ goals.old.items ++ all_goals (domains_in scalars.now) (graph_of message.now)) }
