@@ -1,18 +1,24 @@
 -- What a goal asks at the end of a path, step by step.
-use Rattle.std.proofs.Common.{◌≡◌, refl, sym, ap, ◌∙◌, subst, ℕ, ◌+◌, ◌≤◌, arith, true, nat_le, List, [], ◌∷◌, ◌++◌, append_assoc, append-nil, Option, Some, None}
+use Rattle.std.proofs.Common.{◌≡◌, refl, sym, ap, ◌∙◌, subst, ℕ, ◌+◌, ◌≤◌, arith, true, nat_le, map, length, List, [], ◌∷◌, ◌++◌, append_assoc, append-nil, Option, Some, None}
 use Rattle.rx_types.specs.Domain.{Domain}
 use Rattle.rx_types.specs.Tree.{Tree}
-use Rattle.rx_graph.specs.Graph.{Arrow, Graph, limit_of}
+use Rattle.rx_graph.specs.declared.message.Node.{Node}
+use Rattle.rx_graph.specs.Graph.{Arrow, Graph, type_of, limit_of}
+use Rattle.rx_graph.proofs.Unique.{some_same}
 use Rattle.rx_forms.specs.declared.linear.Linear.{Linear}
-use Rattle.rx_forms.specs.declared.linear.Form.{Form, Any}
+use Rattle.rx_forms.specs.declared.linear.Form.{Form, All, Any}
+use Rattle.rx_forms.specs.declared.field.FieldForms.{FieldForms}
+use Rattle.rx_forms.specs.Code.{formed_all}
 use Rattle.rx_linear.proofs.Joining.{both}
-use Rattle.rx_forms.specs.Linear.{minus}
+use Rattle.rx_forms.specs.Linear.{minus, above}
 use Rattle.rx_forms.specs.Limits.{is_within}
 use Rattle.rx_forms.specs.Worked.{aspect_within}
 use Rattle.rx_forms.specs.Normal.{Formed, condition, divisions_in, formed_of, bits}
 use Rattle.rx_forms.specs.Divisions.{divisions}
-use Rattle.rx_forms.specs.Steps.{form_or, size_aspect, divisions_any, divisions_in_any, first_form, size_form, end_form}
+use Rattle.rx_forms.specs.Steps.{form_or, target_field, size_aspect, divisions_any, divisions_in_any, first_form, size_form, end_form}
 use Rattle.rx_forms.specs.Fronts.{Front, after_end}
+use Rattle.rx_layout.specs.Goals.{HasLink, LeadsToBytes}
+use Rattle.rx_layout.proofs.Numbered.{numbered_found}
 use Rattle.rx_layout.specs.QueryOf
 use Rattle.rx_layout.specs.QueryOf.{goal_step, unit_rows, position_formula, grid_formula, overlay_formula, cover_formula, null_formula, no_multiple}
 use Rattle.rx_types.specs.declared.interval.Interval.{Interval}
@@ -164,3 +170,15 @@ module _ (domains : List Domain) (m : Graph) where
       let is = k ∙ ap (λ (x : Linear). grid_formula x size mid.division) t.begins ∙ ap (λ (x : Linear). grid_formula (first_form step) x mid.division) extends ∙ ap (λ (x : Front). grid_formula (first_form step) (size_form None step) x.division) at in
       h ∙ ap (λ (x : Front). units_behind (Made.grid_units domains m x.division link) 2 x) (formula_on mid last there f formula l at is)
       ∙ sym (asked_behind domains m front link link.first link.size (formula ∷ []) (Made.grid_units domains m q link) 2)
+
+pub cover_many : (fs : List FieldForms) (first : Linear) (branches all : List Form) (before : Form) → 1 ≤ length fs → branches ≡ map (λ f. above f.end first) (formed_all fs) → before ≡ All (map (λ f. above first f.end) (formed_all fs)) → all ≡ branches ++ before ∷ []
+    → Any all ≡ cover_formula (formed_all fs) first
+cover_many [] first branches all before h e k g = absurd (omega (arith, h))
+cover_many (f ∷ fs) first branches all before h e k g =
+    ap (λ (xs : List Form). Any xs) (g ∙ ap (λ (xs : List Form). xs ++ before ∷ []) e ∙ ap (λ (x : Form). map (λ y. above y.end first) (formed_all (f ∷ fs)) ++ x ∷ []) k)
+
+-- the link of a goal that speaks of bytes leads to bytes
+pub bytes_type : (domains : List Domain) (m : Graph) (node : Node) (n : ℕ) (a : Arrow) → HasLink domains m node n (LeadsToBytes domains m) → QueryOf.link_numbered m node n ≡ Some a → type_of domains m (target_field a.target) ≡ None
+bytes_type domains m node n a h e =
+    subst (λ (x : Arrow). type_of domains m (target_field x.target) ≡ None) (some_same h.1 a (sym (numbered_found m node n h.0 h.1 h.2) ∙ e))
+    (ap (λ (x : Node). type_of domains m (target_field x)) h.3.1 ∙ h.3.2)

@@ -97,7 +97,7 @@ four_added g p t r z a b c d e f h k =
 
 -- there is no gap behind the last but one number
 pub gaps_done : (ns : List ℕ) (j : ℕ) → length ns ≤ j + 1 → has_gaps (drop j ns) ≡ false
-gaps_done [] j h = refl
+gaps_done [] j h = ap has_gaps (drop_all j [] (omega arith))
 gaps_done (n ∷ []) zero h = refl
 gaps_done (n ∷ k ∷ ns) zero h = absurd (omega (arith, h))
 gaps_done (n ∷ ns) (suc j) h = gaps_done ns j (omega (arith, h))
@@ -127,3 +127,6 @@ pub link_is : (links : List Link) (i : ℕ) (l : Link) → i < length links → 
 link_is [] i l h is = absurd (omega (arith, h))
 link_is (x ∷ xs) zero l h is = ap (λ (y : Link). Some (arrow_of y)) (sym is)
 link_is (x ∷ xs) (suc i) l h is = link_is xs i l (omega (arith, h)) is
+
+pub link_in : (items links : List Link) (i : ℕ) (l : Link) → links ≡ items → i < length links → l ≡ get_or links i l → slice_get (arrows items) i ≡ Some (arrow_of l)
+link_in items links i l e h is = subst (λ (ls : List Link). slice_get (arrows ls) i ≡ Some (arrow_of l)) e (link_is links i l h is)

@@ -564,6 +564,30 @@ fn ask_two(
     ask_condition(alloc, other, message, scalars, builder)
 }
 
+// A link is taken, and that of a node with a number, nothing where there is none.
+#[tactic(none)]
+fn ask_other(
+    alloc: Global,
+    one: &Link,
+    node: Node,
+    number: u16,
+    message: &Message,
+    scalars: &[Scalar],
+    builder: &mut Builder,
+) -> Result<(), FormFault>
+    requires link { (i : ℕ) × IsLink (graph_of message.now) i (arrow_of one.now) }
+    requires formable { AreFormable (limits_in scalars.now message.now) (graph_of message.now) }
+    requires narrow { AreNarrow (limits_in scalars.now message.now) (graph_of message.now) }
+    requires room { builder.old.work.next ≤ 190 }
+    ensures gone { OnOk result (front_of builder.new ≡ behind (with_link (domains_in scalars.now) (graph_of message.now) (link_numbered (graph_of message.now) node number) (front_of builder.old).fields builder.old.work.next (λ k. taken_asked (domains_in scalars.now) (graph_of message.now) (front_of builder.old).fields builder.old.work.next (arrow_of one.now ∷ k ∷ []))) (front_of builder.old)) }
+    ensures room { OnOk result (builder.new.work.next ≤ 192) }
+{
+    match link_numbered(message, node, number) {
+        Some(other) => ask_two(alloc, one, other, message, scalars, builder),
+        None => Ok(()),
+    }
+}
+
 // Two links of a node are taken, nothing where there is none with one of the numbers.
 #[tactic(none)]
 fn ask_both(
@@ -581,11 +605,8 @@ fn ask_both(
     ensures gone { OnOk result (front_of builder.new ≡ behind (asked_by (domains_in scalars.now) (graph_of message.now) (Goal.Exclusive node one other) (front_of builder.old).fields builder.old.work.next) (front_of builder.old)) }
     ensures room { OnOk result (builder.new.work.next ≤ 192) }
 {
-    let Some(one) = link_numbered(message, node, one) else {
-        return Ok(());
-    };
-    match link_numbered(message, node, other) {
-        Some(other) => ask_two(alloc, one, other, message, scalars, builder),
+    match link_numbered(message, node, one) {
+        Some(link) => ask_other(alloc, link, node, other, message, scalars, builder),
         None => Ok(()),
     }
 }

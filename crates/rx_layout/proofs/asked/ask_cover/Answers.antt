@@ -13,8 +13,8 @@ use Rattle.rx_layout.proofs.Gathered.{if_ok}
 use Rattle.rx_layout.proofs.Behind
 use Rattle.rx_layout.proofs.asked.ask_cover.Goals as goal
 
-pub ask_first-first-requires : goal.ask_first-first-requires
-ask_first-first-requires c = record { formable = c.requires.formable; narrow = c.requires.narrow; room = c.requires.room }
+pub ask_first-requires : goal.ask_first-requires
+ask_first-requires c = record { formable = c.requires.formable; narrow = c.requires.narrow; room = c.requires.room }
 
 pub returns-in_err-first : goal.returns-in_err-first
 returns-in_err-first c = record { gone = IfOk-from_err c.from_residual.result _ c.from_residual.ensures.0; room = IfOk-from_err c.from_residual.result _ c.from_residual.ensures.0 }
@@ -30,7 +30,7 @@ returns c =
     let front = front_of c.args.builder.now in
     let step = goal_step domains m front.fields front.division link in
     let t = c.in_ok-first.ensures in
-    let mid = front_of c.ask_first-first.new.builder in
+    let mid = front_of c.ask_first.new.builder in
     let formula = c.in_ok-formula.ensures ∙ ap (λ (fs : List FieldForms). cover_formula (formed_all fs) c.in_ok-first.first) c.as_slice.ensures.value ∙ ap (λ (y : Front). cover_formula y.fields c.in_ok-first.first) t.gone ∙ ap (λ (y : Linear). cover_formula front.fields y) t.first in
     let end = Behind.first_formula domains m front link link.first (cover_formula front.fields (first_form step)) in
     record {

@@ -13,8 +13,8 @@ use Rattle.rx_layout.proofs.Gathered.{if_ok}
 use Rattle.rx_layout.proofs.Behind
 use Rattle.rx_layout.proofs.asked.ask_overlay.Goals as goal
 
-pub ask_target-target-requires : goal.ask_target-target-requires
-ask_target-target-requires c = record { formable = c.requires.formable; narrow = c.requires.narrow; room = c.requires.room }
+pub ask_target-requires : goal.ask_target-requires
+ask_target-requires c = record { formable = c.requires.formable; narrow = c.requires.narrow; room = c.requires.room }
 
 pub returns-in_err-target : goal.returns-in_err-target
 returns-in_err-target c = record { gone = IfOk-from_err c.from_residual.result _ c.from_residual.ensures.0; room = IfOk-from_err c.from_residual.result _ c.from_residual.ensures.0 }
@@ -34,7 +34,7 @@ returns c =
     let step = goal_step domains m front.fields front.division link in
     let type = type_of domains m (target_field link.target) in
     let t = c.in_ok-target.ensures in
-    let mid = front_of c.ask_target-target.new.builder in
+    let mid = front_of c.ask_target.new.builder in
     let x = c.args.below in
     let below = c.in_ok-below.ensures ∙ ap (λ (fs : List FieldForms). (formed_of x (formed_all fs)).size) c.as_slice.ensures.value ∙ ap (λ (y : Front). (formed_of x y.fields).size) t.gone in
     let formula = c.in_ok-formula.ensures ∙ ap (λ (y : Linear). overlay_formula y c.in_ok-below.below) t.target.extends ∙ ap (λ (y : Linear). overlay_formula (size_form type step) y) below in

@@ -13,8 +13,8 @@ use Rattle.rx_layout.proofs.Gathered.{if_ok}
 use Rattle.rx_layout.proofs.Behind
 use Rattle.rx_layout.proofs.asked.ask_position.Goals as goal
 
-pub ask_target-target-requires : goal.ask_target-target-requires
-ask_target-target-requires c = record { formable = c.requires.formable; narrow = c.requires.narrow; room = c.requires.room }
+pub ask_target-requires : goal.ask_target-requires
+ask_target-requires c = record { formable = c.requires.formable; narrow = c.requires.narrow; room = c.requires.room }
 
 pub returns-in_err-target : goal.returns-in_err-target
 returns-in_err-target c = record { gone = IfOk-from_err c.from_residual.result _ c.from_residual.ensures.0; room = IfOk-from_err c.from_residual.result _ c.from_residual.ensures.0 }
@@ -31,7 +31,7 @@ returns c =
     let step = goal_step domains m front.fields front.division link in
     let type = type_of domains m (target_field link.target) in
     let t = c.in_ok-target.ensures in
-    let mid = front_of c.ask_target-target.new.builder in
+    let mid = front_of c.ask_target.new.builder in
     let formula = c.in_ok-formula.ensures ∙ ap (λ (x : Linear). position_formula x c.in_ok-target.target.size) t.target.begins ∙ ap (λ (x : Linear). position_formula (first_form step) x) t.target.extends in
     let end = Behind.one_formula domains m front link link.first (size_aspect type link.size) (position_formula (first_form step) (size_form type step)) in
     record {

@@ -15,8 +15,8 @@ use Rattle.rx_layout.proofs.Gathered.{if_ok}
 use Rattle.rx_layout.proofs.Behind
 use Rattle.rx_layout.proofs.asked.ask_target.Goals as goal
 
-pub ask_first-first-requires : goal.ask_first-first-requires
-ask_first-first-requires c = record { formable = c.requires.formable; narrow = c.requires.narrow; room = c.requires.room }
+pub ask_first-requires : goal.ask_first-requires
+ask_first-requires c = record { formable = c.requires.formable; narrow = c.requires.narrow; room = c.requires.room }
 
 pub returns-in_err-first : goal.returns-in_err-first
 returns-in_err-first c =
@@ -26,8 +26,8 @@ returns-in_err-first c =
       room = IfOk-from_err c.from_residual.result _ c.from_residual.ensures.0;
     }
 
-pub target_size-size-requires : goal.target_size-size-requires
-target_size-size-requires c = record { formable = c.requires.formable; narrow = c.requires.narrow; room = c.in_ok-first.ensures.room }
+pub target_size-requires : goal.target_size-requires
+target_size-requires c = record { formable = c.requires.formable; narrow = c.requires.narrow; room = c.in_ok-first.ensures.room }
 
 pub returns-in_err-size : goal.returns-in_err-size
 returns-in_err-size c =
@@ -43,7 +43,7 @@ returns c =
     let m = graph_of c.args.message.now in
     let link = arrow_of c.args.link.now in
     let front = front_of c.args.builder.now in
-    let mid = front_of c.ask_first-first.new.builder in
+    let mid = front_of c.ask_first.new.builder in
     let type = type_of domains m (target_field link.target) in
     let first = c.in_ok-first.first in
     let f = c.in_ok-first.ensures in

@@ -39,5 +39,5 @@ returns c =
     record {
       first = if_ok r has (λ f. f ≡ form_or link.first front.fields front.division (end_form front.fields)) (λ f h. h.value) a;
       gone = if_ok r has (λ f. record front { division = w1.next; rows = w1.rows } ≡ after_any domains m link.first front) (λ f h. Behind.aspect_behind domains m front link.first w1.next w1.rows h.next h.rows) a;
-      room = if_ok r has (λ f. w1.next ≤ 190) (λ f h. Behind.aspect_room front.fields w0.next w1.next link.first _ h.next h.within) a;
+      room = if_ok r has (λ f. w1.next ≤ 190) (λ f h. Behind.aspect_room front.fields w0.next w1.next link.first (form_or link.first front.fields front.division (end_form front.fields)) h.next h.within) a;
     }

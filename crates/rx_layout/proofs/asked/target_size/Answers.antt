@@ -42,5 +42,5 @@ returns c =
     record {
       size = if_ok r has (λ f. f ≡ form_or aspect front.fields front.division other) (λ f h. h.value) a;
       gone = if_ok r has (λ f. record front { division = w1.next; rows = w1.rows } ≡ after_any domains m aspect front) (λ f h. Behind.aspect_behind domains m front aspect w1.next w1.rows h.next h.rows) a;
-      room = if_ok r has (λ f. w1.next ≤ 190) (λ f h. Behind.aspect_room front.fields w0.next w1.next aspect _ h.next h.within) a;
+      room = if_ok r has (λ f. w1.next ≤ 190) (λ f h. Behind.aspect_room front.fields w0.next w1.next aspect (form_or aspect front.fields front.division other) h.next h.within) a;
     }
