@@ -29,7 +29,7 @@ returns-in-Exclusive c =
     let m = graph_of c.args.message.now in
     let front = front_of c.args.builder.now in
     record {
-      gone = if_ok c.ask_both.result (λ v. front_of c.ask_both.new.builder ≡ behind (asked_by domains m (goals.Exclusive c.in-Exclusive.node.now c.in-Exclusive.one.now c.in-Exclusive.other.now) front.fields front.division) front) (λ v. front_of c.ask_both.new.builder ≡ behind (asked_by domains m c.args.goal.now front.fields front.division) front) (λ v h. h ∙ ap (λ (g : Goal). behind (asked_by domains m g front.fields front.division) front) (sym c.in-Exclusive.is)) c.ask_both.ensures.gone;
+      gone = if_ok c.ask_both.result (λ v. front_of c.ask_both.new.builder ≡ behind (asked_by domains m (goals.Exclusive c.in-Exclusive.node c.in-Exclusive.one c.in-Exclusive.other) front.fields front.division) front) (λ v. front_of c.ask_both.new.builder ≡ behind (asked_by domains m c.args.goal.now front.fields front.division) front) (λ v h. h ∙ ap (λ (g : Goal). behind (asked_by domains m g front.fields front.division) front) (sym c.in-Exclusive.is)) c.ask_both.ensures.gone;
       room = c.ask_both.ensures.room;
     }
 
@@ -52,7 +52,7 @@ returns-in-Taken c =
     let m = graph_of c.args.message.now in
     let front = front_of c.args.builder.now in
     record {
-      gone = if_ok c.ask_numbered.result (λ v. front_of c.ask_numbered.new.builder ≡ behind (asked_by domains m (goals.Taken c.in-Taken.node.now c.in-Taken.number.now) front.fields front.division) front) (λ v. front_of c.ask_numbered.new.builder ≡ behind (asked_by domains m c.args.goal.now front.fields front.division) front) (λ v h. h ∙ ap (λ (g : Goal). behind (asked_by domains m g front.fields front.division) front) (sym c.in-Taken.is)) c.ask_numbered.ensures.gone;
+      gone = if_ok c.ask_numbered.result (λ v. front_of c.ask_numbered.new.builder ≡ behind (asked_by domains m (goals.Taken c.in-Taken.node c.in-Taken.number) front.fields front.division) front) (λ v. front_of c.ask_numbered.new.builder ≡ behind (asked_by domains m c.args.goal.now front.fields front.division) front) (λ v h. h ∙ ap (λ (g : Goal). behind (asked_by domains m g front.fields front.division) front) (sym c.in-Taken.is)) c.ask_numbered.ensures.gone;
       room = c.ask_numbered.ensures.room;
     }
 
@@ -65,7 +65,7 @@ returns-in-Position c =
     let m = graph_of c.args.message.now in
     let front = front_of c.args.builder.now in
     record {
-      gone = if_ok c.ask_numbered-in-Position.result (λ v. front_of c.ask_numbered-in-Position.new.builder ≡ behind (asked_by domains m (goals.Position c.in-Position.node.now c.in-Position.number.now) front.fields front.division) front) (λ v. front_of c.ask_numbered-in-Position.new.builder ≡ behind (asked_by domains m c.args.goal.now front.fields front.division) front) (λ v h. h ∙ ap (λ (g : Goal). behind (asked_by domains m g front.fields front.division) front) (sym c.in-Position.is)) c.ask_numbered-in-Position.ensures.gone;
+      gone = if_ok c.ask_numbered-in-Position.result (λ v. front_of c.ask_numbered-in-Position.new.builder ≡ behind (asked_by domains m (goals.Position c.in-Position.node c.in-Position.number) front.fields front.division) front) (λ v. front_of c.ask_numbered-in-Position.new.builder ≡ behind (asked_by domains m c.args.goal.now front.fields front.division) front) (λ v h. h ∙ ap (λ (g : Goal). behind (asked_by domains m g front.fields front.division) front) (sym c.in-Position.is)) c.ask_numbered-in-Position.ensures.gone;
       room = c.ask_numbered-in-Position.ensures.room;
     }
 
@@ -78,7 +78,7 @@ returns-in-Grid c =
     let m = graph_of c.args.message.now in
     let front = front_of c.args.builder.now in
     record {
-      gone = if_ok c.ask_numbered-in-Grid.result (λ v. front_of c.ask_numbered-in-Grid.new.builder ≡ behind (asked_by domains m (goals.Grid c.in-Grid.node.now c.in-Grid.number.now) front.fields front.division) front) (λ v. front_of c.ask_numbered-in-Grid.new.builder ≡ behind (asked_by domains m c.args.goal.now front.fields front.division) front) (λ v h. h ∙ ap (λ (g : Goal). behind (asked_by domains m g front.fields front.division) front) (sym c.in-Grid.is)) c.ask_numbered-in-Grid.ensures.gone;
+      gone = if_ok c.ask_numbered-in-Grid.result (λ v. front_of c.ask_numbered-in-Grid.new.builder ≡ behind (asked_by domains m (goals.Grid c.in-Grid.node c.in-Grid.number) front.fields front.division) front) (λ v. front_of c.ask_numbered-in-Grid.new.builder ≡ behind (asked_by domains m c.args.goal.now front.fields front.division) front) (λ v h. h ∙ ap (λ (g : Goal). behind (asked_by domains m g front.fields front.division) front) (sym c.in-Grid.is)) c.ask_numbered-in-Grid.ensures.gone;
       room = c.ask_numbered-in-Grid.ensures.room;
     }
 
@@ -91,7 +91,7 @@ returns-in-Overlay c =
     let m = graph_of c.args.message.now in
     let front = front_of c.args.builder.now in
     record {
-      gone = if_ok c.ask_numbered-in-Overlay.result (λ v. front_of c.ask_numbered-in-Overlay.new.builder ≡ behind (asked_by domains m (goals.Overlay c.in-Overlay.node.now c.in-Overlay.number.now) front.fields front.division) front) (λ v. front_of c.ask_numbered-in-Overlay.new.builder ≡ behind (asked_by domains m c.args.goal.now front.fields front.division) front) (λ v h. h ∙ ap (λ (g : Goal). behind (asked_by domains m g front.fields front.division) front) (sym c.in-Overlay.is)) c.ask_numbered-in-Overlay.ensures.gone;
+      gone = if_ok c.ask_numbered-in-Overlay.result (λ v. front_of c.ask_numbered-in-Overlay.new.builder ≡ behind (asked_by domains m (goals.Overlay c.in-Overlay.node c.in-Overlay.number) front.fields front.division) front) (λ v. front_of c.ask_numbered-in-Overlay.new.builder ≡ behind (asked_by domains m c.args.goal.now front.fields front.division) front) (λ v h. h ∙ ap (λ (g : Goal). behind (asked_by domains m g front.fields front.division) front) (sym c.in-Overlay.is)) c.ask_numbered-in-Overlay.ensures.gone;
       room = c.ask_numbered-in-Overlay.ensures.room;
     }
 
@@ -104,7 +104,7 @@ returns-in-Cover c =
     let m = graph_of c.args.message.now in
     let front = front_of c.args.builder.now in
     record {
-      gone = if_ok c.ask_numbered-in-Cover.result (λ v. front_of c.ask_numbered-in-Cover.new.builder ≡ behind (asked_by domains m (goals.Cover c.in-Cover.node.now c.in-Cover.number.now) front.fields front.division) front) (λ v. front_of c.ask_numbered-in-Cover.new.builder ≡ behind (asked_by domains m c.args.goal.now front.fields front.division) front) (λ v h. h ∙ ap (λ (g : Goal). behind (asked_by domains m g front.fields front.division) front) (sym c.in-Cover.is)) c.ask_numbered-in-Cover.ensures.gone;
+      gone = if_ok c.ask_numbered-in-Cover.result (λ v. front_of c.ask_numbered-in-Cover.new.builder ≡ behind (asked_by domains m (goals.Cover c.in-Cover.node c.in-Cover.number) front.fields front.division) front) (λ v. front_of c.ask_numbered-in-Cover.new.builder ≡ behind (asked_by domains m c.args.goal.now front.fields front.division) front) (λ v h. h ∙ ap (λ (g : Goal). behind (asked_by domains m g front.fields front.division) front) (sym c.in-Cover.is)) c.ask_numbered-in-Cover.ensures.gone;
       room = c.ask_numbered-in-Cover.ensures.room;
     }
 
@@ -117,7 +117,7 @@ returns-in-Whole c =
     let m = graph_of c.args.message.now in
     let front = front_of c.args.builder.now in
     record {
-      gone = if_ok c.ask_numbered-in-Whole.result (λ v. front_of c.ask_numbered-in-Whole.new.builder ≡ behind (asked_by domains m (goals.Whole c.in-Whole.node.now c.in-Whole.number.now) front.fields front.division) front) (λ v. front_of c.ask_numbered-in-Whole.new.builder ≡ behind (asked_by domains m c.args.goal.now front.fields front.division) front) (λ v h. h ∙ ap (λ (g : Goal). behind (asked_by domains m g front.fields front.division) front) (sym c.in-Whole.is)) c.ask_numbered-in-Whole.ensures.gone;
+      gone = if_ok c.ask_numbered-in-Whole.result (λ v. front_of c.ask_numbered-in-Whole.new.builder ≡ behind (asked_by domains m (goals.Whole c.in-Whole.node c.in-Whole.number) front.fields front.division) front) (λ v. front_of c.ask_numbered-in-Whole.new.builder ≡ behind (asked_by domains m c.args.goal.now front.fields front.division) front) (λ v h. h ∙ ap (λ (g : Goal). behind (asked_by domains m g front.fields front.division) front) (sym c.in-Whole.is)) c.ask_numbered-in-Whole.ensures.gone;
       room = c.ask_numbered-in-Whole.ensures.room;
     }
 
