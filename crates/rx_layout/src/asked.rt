@@ -14,8 +14,8 @@ ghost use Rattle.rx_layout.specs.Goals.{IsGoal, HasLink, LeadsToBytes};
 ghost use Rattle.rx_layout.specs.Made.{asked_link, behind, after_any, after_target, IsTarget, grid_units, size_behind, formula_behind, units_behind};
 ghost use Rattle.rx_layout.specs.QueryOf.{goal_step, asked_of, unit_rows, null_formula, link_numbered, interval_or, rest_interval, taken_asked, position_asked, grid_asked, overlay_on, overlay_asked, cover_asked, cover_to, whole_asked, asked_by, with_link};
 
-use crate::fields::overlay_of;
 use crate::checklist::{LinkCheck, leaves};
+use crate::fields::overlay_of;
 use crate::formula::{
     cover_formula, grid_formula, last_end, no_multiple, null_formula, overlay_formula,
     position_formula, push_units,
@@ -171,11 +171,7 @@ fn push_formula(formula: Form, builder: &mut Builder) -> Result<(), FormFault>
 }
 
 // Adds a quotient by 8 of a number in an interval.
-fn push_quotient(
-    alloc: Global,
-    interval: &Interval,
-    builder: &mut Builder,
-) -> Result<(), FormFault>
+fn push_quotient(alloc: Global, interval: &Interval, builder: &mut Builder) -> Result<(), FormFault>
     requires short { IsShort interval.now }
     requires room { builder.old.work.next ≤ 191 }
     ensures { OnOk result (front_of builder.new ≡ units_behind (unit_rows builder.old.work.next interval.now) 1 (front_of builder.old)) }

@@ -67,7 +67,10 @@ fn is_checked(check: LinkCheck, target: Node, message: &Message, scalars: &[Scal
     match target {
         Node::At(field) => is_checked_into(check, field, message, scalars),
         Node::Start => matches!(check, LinkCheck::Taken | LinkCheck::Cover),
-        Node::Null => matches!(check, LinkCheck::Taken | LinkCheck::Cover | LinkCheck::Whole),
+        Node::Null => matches!(
+            check,
+            LinkCheck::Taken | LinkCheck::Cover | LinkCheck::Whole
+        ),
     }
 }
 
@@ -171,12 +174,7 @@ fn links_from(node: Node, message: &Message) -> u16
 }
 
 // Adds link `first` with each later one of so many.
-fn add_pairs_with(
-    node: Node,
-    first: u16,
-    count: u16,
-    goals: &mut Vec<Goal>,
-) -> Result<(), NoMemory>
+fn add_pairs_with(node: Node, first: u16, count: u16, goals: &mut Vec<Goal>) -> Result<(), NoMemory>
     requires few { count ≤ 512 }
     ensures { OnOk result ((domains : List Domain) (m : Graph) (links : List Arrow) → length links ≡ count → goals.new.items ≡ goals.old.items ++ pairs_with domains m node first (first + 1) (drop first links)) }
 {
@@ -233,11 +231,7 @@ fn add_reached(fields: &[Field], goals: &mut Vec<Goal>) -> Result<(), NoMemory>
 // ---- all
 
 // Adds the goals of all links that have one of these checks, one check after the other.
-fn add_places(
-    message: &Message,
-    scalars: &[Scalar],
-    goals: &mut Vec<Goal>,
-) -> Result<(), NoMemory>
+fn add_places(message: &Message, scalars: &[Scalar], goals: &mut Vec<Goal>) -> Result<(), NoMemory>
     requires few { length message.now.links.items ≤ 512 }
     requires fields { length message.now.fields.items ≤ 128 }
     ensures { OnOk result (goals.new.items ≡ goals.old.items ++ (checks_of (domains_in scalars.now) (graph_of message.now) LinkCheck.Position ++ (checks_of (domains_in scalars.now) (graph_of message.now) LinkCheck.Grid ++ (checks_of (domains_in scalars.now) (graph_of message.now) LinkCheck.Overlay ++ (checks_of (domains_in scalars.now) (graph_of message.now) LinkCheck.Cover ++ checks_of (domains_in scalars.now) (graph_of message.now) LinkCheck.Whole))))) }

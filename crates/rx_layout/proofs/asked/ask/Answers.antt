@@ -120,4 +120,3 @@ returns-in-Whole c =
       gone = if_ok c.ask_numbered-in-Whole.result (λ v. front_of c.ask_numbered-in-Whole.new.builder ≡ behind (asked_by domains m (goals.Whole c.in-Whole.node c.in-Whole.number) front.fields front.division) front) (λ v. front_of c.ask_numbered-in-Whole.new.builder ≡ behind (asked_by domains m c.args.goal.now front.fields front.division) front) (λ v h. h ∙ ap (λ (g : Goal). behind (asked_by domains m g front.fields front.division) front) (sym c.in-Whole.is)) c.ask_numbered-in-Whole.ensures.gone;
       room = c.ask_numbered-in-Whole.ensures.room;
     }
-

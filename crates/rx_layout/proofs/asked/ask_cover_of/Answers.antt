@@ -46,4 +46,3 @@ returns-in-None c =
       gone = if_ok c.ask_cover.result _ _ (λ v h. h ∙ ap (λ (o : Option ℕ). behind (cover_asked domains m o front.fields front.division link) front) (c.in-None.ensures)) c.ask_cover.ensures.gone;
       room = c.ask_cover.ensures.room;
     }
-

@@ -60,4 +60,3 @@ returns-in-Null c =
       gone = if_ok c.ask_null.result (λ v. front_of c.ask_null.new.builder ≡ behind (cover_to domains m Null front.fields front.division link) front) (λ v. front_of c.ask_null.new.builder ≡ behind (cover_to domains m link.target front.fields front.division link) front) (λ v h. h ∙ ap (λ (t : Node). behind (cover_to domains m t front.fields front.division link) front) (sym c.in-Null.is)) c.ask_null.ensures.gone;
       room = c.ask_null.ensures.room;
     }
-

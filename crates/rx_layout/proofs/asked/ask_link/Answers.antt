@@ -102,4 +102,3 @@ returns-in-Whole c =
       gone = if_ok c.ask_whole.result (λ v. front_of c.ask_whole.new.builder ≡ behind (asked_link domains m check.Whole front.fields front.division link) front) (λ v. front_of c.ask_whole.new.builder ≡ behind (asked_link domains m c.args.check front.fields front.division link) front) (λ v h. h ∙ ap (λ (k : LinkCheck). behind (asked_link domains m k front.fields front.division link) front) (sym c.in-Whole.is)) c.ask_whole.ensures.gone;
       room = if_ok c.ask_whole.result (λ v. c.ask_whole.new.builder.work.next ≤ 191) (λ v. c.ask_whole.new.builder.work.next ≤ 192) (λ v h. omega (arith, h)) c.ask_whole.ensures.room;
     }
-

@@ -46,4 +46,3 @@ returns-in-None c =
       gone = if_ok c.ask_taken.result _ _ (λ v h. h ∙ ap (λ (o : Option ℕ). behind (overlay_on domains m o front.fields front.division link) front) (c.in-None.ensures ∙ ap (λ (f : ℕ). overlay_of (slice_get c.args.message.now.fields.items f)) c.target_field.ensures)) c.ask_taken.ensures.gone;
       room = c.ask_taken.ensures.room;
     }
-
