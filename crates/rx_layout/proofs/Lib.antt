@@ -1,10 +1,14 @@
 pub mod Along
+pub mod Answering
 pub mod Asking
+pub mod Behind
+pub mod Checking
 pub mod Covering
 pub mod Cuts
 pub mod Domains
 pub mod Ends
 pub mod Even
+pub mod Flat
 pub mod Formulas
 pub mod Gathered
 pub mod Holding
@@ -18,5 +22,6 @@ pub mod Numbered
 pub mod Placed
 pub mod Placing
 pub mod Satisfied
+pub mod Stepping
 pub mod Taking
 pub mod Targets

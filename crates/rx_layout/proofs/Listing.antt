@@ -16,7 +16,9 @@ use Rattle.rx_layout.specs.declared.goal.Goal.TheVariants as goal
 use Rattle.rx_layout.specs.Goals
 use Rattle.rx_layout.specs.Goals.{IsGoal}
 use Rattle.rx_layout.specs.Listed
-use Rattle.rx_layout.specs.Listed.{nodes_from, nodes_of, links_at, is_absent, is_present, LinkCheck, Taken, Position, Grid, Overlay, Cover, Whole, goal_of, Among}
+use Rattle.rx_layout.specs.declared.checklist.LinkCheck.{LinkCheck}
+use Rattle.rx_layout.specs.declared.checklist.LinkCheck.TheVariants.{Taken, Position, Grid, Overlay, Cover, Whole}
+use Rattle.rx_layout.specs.Listed.{nodes_from, nodes_of, links_at, is_absent, is_present, goal_of, Among}
 use Rattle.rx_layout.proofs.Numbered.{numbered_found, leaves, counted_from}
 
 -- ---- lists behind one another

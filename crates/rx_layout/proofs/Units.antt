@@ -363,7 +363,7 @@ module _ (domains : List Domain) (m : Graph) where
   typed_proper Opaque low t h e = absurd (cc)
   typed_proper (Sequence i) low t h e = absurd (cc)
 
-  field_proper : IsElaborated domains m → (f : ℕ) (o : Option field.Field) (t : Domain) → slice_get m.fields f ≡ o → scalar_of domains o ≡ Some t → IsProper t
+  pub field_proper : IsElaborated domains m → (f : ℕ) (o : Option field.Field) (t : Domain) → slice_get m.fields f ≡ o → scalar_of domains o ≡ Some t → IsProper t
   field_proper el f None t is e = absurd (cc)
   field_proper el f (Some x) t is e = typed_proper x.kind m.low_order t (el.fields f x is).kind e
 

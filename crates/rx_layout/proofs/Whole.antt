@@ -36,7 +36,7 @@ module _ (domains : List Domain) (m : Graph) (el : IsElaborated domains m) (form
   onward (At f) i link at end path t e is s h n rest = (link, f, is, s, e, rest f h)
   onward Null i link at end path t e is s h n rest = absurd (nothing_behind path end h n)
 
-  leads_through : (at : Node) (path : List ℕ) (end : Node) → IsPath m at path end → (end ≡ Null → ⊥) → Steps.LeadsThrough domains m at path end
+  pub leads_through : (at : Node) (path : List ℕ) (end : Node) → IsPath m at path end → (end ≡ Null → ⊥) → Steps.LeadsThrough domains m at path end
   leads_through at [] end h n = h
   leads_through at (i ∷ path) end h n = onward h.0.target i h.0 at end path (el.links i h.0 h.1).target refl h.1 h.2 h.3 n (λ f p. leads_through (At f) path end p n)
 
@@ -45,7 +45,7 @@ module _ (domains : List Domain) (m : Graph) (el : IsElaborated domains m) (form
   no_null : (node : Node) (n : ℕ) (P : Arrow → Type 0) → HasLink domains m node n P → node ≡ Null → ⊥
   no_null node n P h e = no_source h.1 (el.links h.0 h.1 h.2.is).source (h.2.source ∙ e)
 
-  source_is_no_null : (goal : Goal) → IsGoal domains m goal → source goal ≡ Null → ⊥
+  pub source_is_no_null : (goal : Goal) → IsGoal domains m goal → source goal ≡ Null → ⊥
   source_is_no_null (Exclusive node a b) h e = no_null node a _ h.1 e
   source_is_no_null (Taken node n) h e = no_null node n _ h e
   source_is_no_null (Reached f) h e = at_null f e

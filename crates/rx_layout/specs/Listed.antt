@@ -1,7 +1,6 @@
 -- The goals of a message, in the order in which they are reported.
 --   nodes_of m          the start, then the fields in the order of the text
 --   links_at m node     the links of a node, in their order
---   LinkCheck           the checks of one link
 --   is_checked, goal_of whether a link has such a check, and the goal that it makes
 --   all_goals           all goals of the message
 use Rattle.std.specs.Prelude.{◌≡◌, ◌⊎◌, List, [], ◌∷◌, ◌++◌, filter, ℕ, ◌+◌, Bool, true, false, if◌then◌else◌, Option, Some, None, slice_get}
@@ -14,6 +13,8 @@ use Rattle.rx_graph.specs.Graph.{Arrow, Graph, type_of, overlay_of}
 use Rattle.rx_graph.specs.Checks.{is_node}
 use Rattle.rx_layout.specs.declared.goal.Goal.{Goal}
 use Rattle.rx_layout.specs.declared.goal.Goal.TheVariants as goal
+use Rattle.rx_layout.specs.declared.checklist.LinkCheck.{LinkCheck}
+use Rattle.rx_layout.specs.declared.checklist.LinkCheck.TheVariants.{Taken, Position, Grid, Overlay, Cover, Whole}
 
 -- ---- nodes and links
 
@@ -41,14 +42,6 @@ is_absent (Some x) = false
 abbrev pub is_present : {X : Type 0} → Option X → Bool
 is_present None = false
 is_present (Some x) = true
-
-pub data LinkCheck : Type 0 where
-  Taken : LinkCheck
-  Position : LinkCheck
-  Grid : LinkCheck
-  Overlay : LinkCheck
-  Cover : LinkCheck
-  Whole : LinkCheck
 
 abbrev pub goal_of : LinkCheck → Node → ℕ → Goal
 goal_of Taken node n = goal.Taken node n

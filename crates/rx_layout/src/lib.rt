@@ -1,12 +1,19 @@
 //! Queries of a path and a check: rows and disjunctions whose points are the numbers of a partial path.
 #![tactic(auto)]
 
+mod asked;
 mod checklist;
 mod fault;
+mod fields;
+mod fits;
+mod formula;
 mod goal;
 mod laws;
 mod parts;
 mod querying;
+#[cfg(test)]
+mod tests;
+mod types;
 
 pub use checklist::goals;
 pub use fault::NoMemory;

@@ -1,20 +1,138 @@
 //! The query of a path and a goal.
 
-ghost use Rattle.std.specs.Prelude.{◌≡◌, Some, IfOk, slice_get};
+ghost use Rattle.std.specs.Prelude.{◌≡◌, ◌≤◌, ◌<◌, ◌&&◌, Some, IfOk, OnOk, slice_get};
+ghost use Rattle.std.specs.List.{list_all};
 ghost use Rattle.rx_types.specs.Domain.{Domain, boolean};
 ghost use Rattle.rx_graph.specs.declared.message.Node.TheVariants.{Start};
 ghost use Rattle.rx_graph.specs.Cycles.{IsPath};
 ghost use Rattle.rx_graph.specs.Elaborated.{IsElaborated};
 ghost use Rattle.rx_graph.specs.Graph.{domains_of, graph_of};
+ghost use Rattle.rx_forms.specs.Steps.{links_on, scalars_on, AreFormable, AreNarrow};
+ghost use Rattle.rx_forms.specs.Gathered.{into_fields};
+ghost use Rattle.rx_forms.specs.Code.{domains_in, limits_in};
+ghost use Rattle.rx_forms.specs.Fronts.{front_of, first_front, after_links};
 ghost use Rattle.rx_forms.specs.PathLimit.{KeepsLimit};
+ghost use Rattle.rx_layout.specs.Fitting.{fits, fits_row};
 ghost use Rattle.rx_layout.specs.Goals.{source, IsGoal};
+ghost use Rattle.rx_layout.specs.Made.{HasSmallTypes, behind, behind_path, gathered_form};
+ghost use Rattle.rx_layout.specs.Parts.{query_of, parts_of};
 ghost use Rattle.rx_layout.specs.QueryOf.{query_for};
 
+use crate::asked::ask;
 use crate::fault::NoMemory;
+use crate::fields::{add_overlays, add_places, add_types, rows_form};
+use crate::fits::is_fitting;
 use crate::goal::Goal;
-use rx_graph::{Message, Path, Spec};
+use crate::parts::query_of_form;
+use crate::types::between;
+use rx_forms::{Builder, Form, FormFault, gather_fields, scalars_along, start};
+use rx_graph::{Message, Path, Scalar, Spec};
 use rx_proof::Query;
+use sqlite_items::Items;
 use std::alloc::Global;
+
+// Gathers a path with so many scalars, and what a goal asks at its end.
+#[tactic(none)]
+fn gather(
+    alloc: Global,
+    count: usize,
+    path: &[u16],
+    goal: &Goal,
+    message: &Message,
+    scalars: &[Scalar],
+) -> Result<Builder, FormFault>
+    requires formable { AreFormable (limits_in scalars.now message.now) (graph_of message.now) }
+    requires narrow { AreNarrow (limits_in scalars.now message.now) (graph_of message.now) }
+    requires goal { IsGoal (domains_in scalars.now) (graph_of message.now) goal.now }
+    requires count { count ≡ scalars_on (domains_in scalars.now) (graph_of message.now) (into_fields (links_on (domains_in scalars.now) (graph_of message.now) path.now)) }
+    requires few { count < 190 }
+    ensures gone { IfOk result (λ b. front_of b ≡ behind_path (domains_in scalars.now) (graph_of message.now) path.now goal.now) }
+    ensures room { IfOk result (λ b. b.work.next ≤ 192) }
+{
+    let mut builder = start(alloc, count);
+    gather_fields(alloc, path, message, scalars, &mut builder)?;
+    ask(alloc, goal, message, scalars, &mut builder)?;
+    Ok(builder)
+}
+
+// What holds of a path, and of what is asked at its end.
+fn gathered_form(
+    alloc: Global,
+    builder: Builder,
+    message: &Message,
+    scalars: &[Scalar],
+) -> Result<Form, FormFault>
+    requires { HasSmallTypes (domains_in scalars.now) (graph_of message.now) }
+    ensures { IfOk result (λ f. f ≡ gathered_form (domains_in scalars.now) (graph_of message.now) builder) }
+{
+    let mut forms = Items::new(alloc);
+    let fields = builder.fields.as_slice();
+    add_types(alloc, fields, message, scalars, &mut forms)?;
+    let length = between(alloc, 0, 16_777_215, 0)?;
+    forms.push(length)?;
+    add_places(alloc, fields, &mut forms)?;
+    add_overlays(alloc, fields, message, scalars, &mut forms)?;
+    let divisions = rows_form(alloc, builder.work.rows.as_slice())?;
+    forms.append(builder.conditions)?;
+    forms.push(divisions)?;
+    Ok(Form::All(forms))
+}
+
+// The query of a gathered path, if it stays within the limits of systems.
+#[tactic(none)]
+fn gathered_query(
+    alloc: Global,
+    builder: Builder,
+    message: &Message,
+    scalars: &[Scalar],
+) -> Result<Query, NoMemory>
+    requires types { HasSmallTypes (domains_in scalars.now) (graph_of message.now) }
+    requires room { builder.work.next ≤ 192 }
+    ensures { IfOk result (λ q. q ≡ query_of builder.work.next (parts_of builder.work.next (gathered_form (domains_in scalars.now) (graph_of message.now) builder))) }
+{
+    let variables = builder.work.next;
+    match gathered_form(alloc, builder, message, scalars) {
+        Ok(form) => fitting_query(alloc, variables, &form),
+        Err(_) => Err(NoMemory),
+    }
+}
+
+// The query of a fact, if it stays within the limits of systems.
+fn fitting_query(alloc: Global, variables: usize, form: &Form) -> Result<Query, NoMemory>
+    requires few { variables ≤ 192 }
+    ensures { IfOk result (λ q. q ≡ query_of variables (parts_of variables form.now)) }
+{
+    if is_fitting(variables, form) {
+        query_of_form(alloc, variables, form)
+    } else {
+        Err(NoMemory)
+    }
+}
+
+// The query of a path and a goal, where the scalar types are known.
+#[tactic(none)]
+fn query_with(
+    alloc: Global,
+    message: &Message,
+    scalars: &[Scalar],
+    path: &[u16],
+    goal: &Goal,
+) -> Result<Query, NoMemory>
+    requires elaborated { IsElaborated (domains_in scalars.now) (graph_of message.now) }
+    requires boolean { (d : Domain) → slice_get (domains_in scalars.now) 0 ≡ Some d → d ≡ boolean }
+    requires goal { IsGoal (domains_in scalars.now) (graph_of message.now) goal.now }
+    requires path { IsPath (graph_of message.now) Start path.now (source goal.now) }
+    ensures { IfOk result (λ query. query ≡ query_for (domains_in scalars.now) (graph_of message.now) goal.now path.now) }
+{
+    let count = scalars_along(path, message, scalars);
+    if count >= 190 {
+        return Err(NoMemory);
+    }
+    match gather(alloc, count, path, goal, message, scalars) {
+        Ok(builder) => gathered_query(alloc, builder, message, scalars),
+        Err(_) => Err(NoMemory),
+    }
+}
 
 /// The query of a path to a goal's source. Its points, cut to the length and the scalars, are the numbers of the partial path that
 /// meet the goal.
@@ -32,5 +150,5 @@ pub fn query(
     requires path { IsPath (graph_of message.now) Start path.now (source goal.now) }
     ensures { IfOk result (λ query. query ≡ query_for (domains_of spec.now) (graph_of message.now) goal.now path.now) }
 {
-    Err(NoMemory)
+    query_with(alloc, message, spec.scalars.as_slice(), path.links(), goal)
 }

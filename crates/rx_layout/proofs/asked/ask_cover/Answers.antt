@@ -1,0 +1,39 @@
+use Rattle.std.proofs.Common.{◌≡◌, ℕ, refl, sym, ap, ◌∙◌, subst, ◌≤◌, ◌+◌, arith, List, [], ◌∷◌, true, IfOk, OnOk, Option, Some, None}
+use Rattle.std.proofs.lemmas.Result.{IfOk-from_err, on_ok_weaker}
+use Rattle.rx_graph.specs.Graph.{graph_of, arrow_of, type_of}
+use Rattle.rx_forms.specs.declared.linear.Linear.{Linear}
+use Rattle.rx_forms.specs.declared.field.FieldForms.{FieldForms}
+use Rattle.rx_forms.specs.Steps.{size_aspect, first_form, size_form, end_form, target_field}
+use Rattle.rx_forms.specs.Normal.{Formed, formed_of}
+use Rattle.rx_forms.specs.Code.{formed_all, domains_in, limits_in}
+use Rattle.rx_forms.specs.Fronts.{Front, front_of, after_end}
+use Rattle.rx_layout.specs.Made.{after_any, after_target, formula_behind, units_behind, behind}
+use Rattle.rx_layout.specs.QueryOf.{goal_step, position_formula, grid_formula, overlay_formula, cover_formula, null_formula, no_multiple, unit_rows}
+use Rattle.rx_layout.proofs.Gathered.{if_ok}
+use Rattle.rx_layout.proofs.Behind
+use Rattle.rx_layout.proofs.asked.ask_cover.Goals as goal
+
+pub ask_first-requires : goal.ask_first-requires
+ask_first-requires c = record { formable = c.requires.formable; narrow = c.requires.narrow; room = c.requires.room }
+
+pub returns-in_err-first : goal.returns-in_err-first
+returns-in_err-first c = record { gone = IfOk-from_err c.from_residual.result _ c.from_residual.ensures.0; room = IfOk-from_err c.from_residual.result _ c.from_residual.ensures.0 }
+
+pub returns-in_err-formula : goal.returns-in_err-formula
+returns-in_err-formula c = record { gone = IfOk-from_err c.from_residual-in_err-formula.result _ c.from_residual-in_err-formula.ensures.0; room = IfOk-from_err c.from_residual-in_err-formula.result _ c.from_residual-in_err-formula.ensures.0 }
+
+pub returns : goal.returns
+returns c =
+    let domains = domains_in c.args.scalars.now in
+    let m = graph_of c.args.message.now in
+    let link = arrow_of c.args.link.now in
+    let front = front_of c.args.builder.now in
+    let step = goal_step domains m front.fields front.division link in
+    let t = c.in_ok-first.ensures in
+    let mid = front_of c.ask_first.new.builder in
+    let formula = c.in_ok-formula.ensures ∙ ap (λ (fs : List FieldForms). cover_formula (formed_all fs) c.in_ok-first.first) c.as_slice.ensures.value ∙ ap (λ (y : Front). cover_formula y.fields c.in_ok-first.first) t.gone ∙ ap (λ (y : Linear). cover_formula front.fields y) t.first in
+    let end = Behind.first_formula domains m front link link.first (cover_formula front.fields (first_form step)) in
+    record {
+      gone = if_ok c.push_formula.result _ _ (λ v h. Behind.formula_on mid _ _ _ _ h t.gone formula ∙ end) c.push_formula.ensures;
+      room = if_ok c.push_formula.result _ _ (λ v h. subst (λ (k : ℕ). k ≤ 190) (sym (ap (λ (y : Front). y.division) h)) t.room) c.push_formula.ensures;
+    }

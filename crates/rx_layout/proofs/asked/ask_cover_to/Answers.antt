@@ -1,0 +1,62 @@
+use Rattle.std.proofs.Common.{◌≡◌, ℕ, refl, sym, ap, ◌∙◌, subst, ◌≤◌, ◌+◌, arith, List, [], ◌∷◌, true, IfOk, OnOk, Option, Some, None, slice_get}
+use Rattle.std.proofs.lemmas.Result.{IfOk-from_err, on_ok_weaker}
+use Rattle.rx_graph.specs.declared.message.Node.{Node}
+use Rattle.rx_graph.specs.Graph.{Arrow, graph_of, arrow_of, type_of, overlay_of}
+use Rattle.rx_forms.specs.declared.linear.Linear.{Linear}
+use Rattle.rx_forms.specs.declared.field.FieldForms.{FieldForms}
+use Rattle.rx_forms.specs.Steps.{size_aspect, first_form, size_form, end_form, target_field}
+use Rattle.rx_forms.specs.Normal.{Formed, formed_of}
+use Rattle.rx_forms.specs.Code.{formed_all, domains_in, limits_in}
+use Rattle.rx_forms.specs.Fronts.{Front, front_of, after_end}
+use Rattle.rx_layout.specs.Made.{after_any, after_target, formula_behind, units_behind, behind, asked_link}
+use Rattle.rx_layout.specs.QueryOf.{goal_step, position_formula, grid_formula, overlay_formula, cover_formula, null_formula, no_multiple, unit_rows, cover_asked, cover_to, overlay_on, with_link, taken_asked, link_numbered, asked_by}
+use Rattle.rx_layout.specs.declared.checklist.LinkCheck.{LinkCheck}
+use Rattle.rx_layout.specs.declared.goal.Goal.{Goal}
+use Rattle.rx_layout.specs.declared.checklist.LinkCheck.TheVariants as check
+use Rattle.rx_graph.specs.declared.message.Node.TheVariants.{Start, At, Null}
+use Rattle.rx_layout.specs.Goals.{IsGoal}
+use Rattle.rx_layout.proofs.Gathered.{if_ok}
+use Rattle.rx_layout.proofs.Behind
+use Rattle.rx_layout.proofs.asked.ask_cover_to.Goals as goal
+
+pub ask_taken-requires : goal.ask_taken-requires
+ask_taken-requires c = record { formable = c.requires.formable; narrow = c.requires.narrow; room = c.requires.room }
+
+pub ask_cover_of-requires : goal.ask_cover_of-requires
+ask_cover_of-requires c = record { formable = c.requires.formable; narrow = c.requires.narrow; room = c.requires.room }
+
+pub ask_null-requires : goal.ask_null-requires
+ask_null-requires c = record { formable = c.requires.formable; narrow = c.requires.narrow; room = c.requires.room }
+
+pub returns-in-Start : goal.returns-in-Start
+returns-in-Start c =
+    let domains = domains_in c.args.scalars.now in
+    let m = graph_of c.args.message.now in
+    let link = arrow_of c.args.link.now in
+    let front = front_of c.args.builder.now in
+    record {
+      gone = if_ok c.ask_taken.result (λ v. front_of c.ask_taken.new.builder ≡ behind (cover_to domains m Start front.fields front.division link) front) (λ v. front_of c.ask_taken.new.builder ≡ behind (cover_to domains m link.target front.fields front.division link) front) (λ v h. h ∙ ap (λ (t : Node). behind (cover_to domains m t front.fields front.division link) front) (sym c.in-Start.is)) c.ask_taken.ensures.gone;
+      room = c.ask_taken.ensures.room;
+    }
+
+pub returns-in-At : goal.returns-in-At
+returns-in-At c =
+    let domains = domains_in c.args.scalars.now in
+    let m = graph_of c.args.message.now in
+    let link = arrow_of c.args.link.now in
+    let front = front_of c.args.builder.now in
+    record {
+      gone = if_ok c.ask_cover_of.result (λ v. front_of c.ask_cover_of.new.builder ≡ behind (cover_to domains m (At c.in-At.field) front.fields front.division link) front) (λ v. front_of c.ask_cover_of.new.builder ≡ behind (cover_to domains m link.target front.fields front.division link) front) (λ v h. h ∙ ap (λ (t : Node). behind (cover_to domains m t front.fields front.division link) front) (sym c.in-At.is)) c.ask_cover_of.ensures.gone;
+      room = c.ask_cover_of.ensures.room;
+    }
+
+pub returns-in-Null : goal.returns-in-Null
+returns-in-Null c =
+    let domains = domains_in c.args.scalars.now in
+    let m = graph_of c.args.message.now in
+    let link = arrow_of c.args.link.now in
+    let front = front_of c.args.builder.now in
+    record {
+      gone = if_ok c.ask_null.result (λ v. front_of c.ask_null.new.builder ≡ behind (cover_to domains m Null front.fields front.division link) front) (λ v. front_of c.ask_null.new.builder ≡ behind (cover_to domains m link.target front.fields front.division link) front) (λ v h. h ∙ ap (λ (t : Node). behind (cover_to domains m t front.fields front.division link) front) (sym c.in-Null.is)) c.ask_null.ensures.gone;
+      room = c.ask_null.ensures.room;
+    }

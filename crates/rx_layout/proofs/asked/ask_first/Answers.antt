@@ -1,0 +1,43 @@
+use Rattle.std.proofs.Common.{◌≡◌, refl, sym, ap, ◌∙◌, subst, ◌≤◌, ◌+◌, arith, List, [], ◌∷◌, true, IfOk, OnOk, Option, Some, None}
+use Rattle.std.proofs.lemmas.Result.{IfOk-from_err, on_ok_weaker}
+use Rattle.rx_types.specs.Domain.{Domain}
+use Rattle.rx_graph.specs.Graph.{graph_of, arrow_of, type_of}
+use Rattle.rx_forms.specs.declared.field.FieldForms.{FieldForms}
+use Rattle.rx_forms.specs.declared.linear.Linear.{Linear}
+use Rattle.rx_forms.specs.Steps.{form_or, end_form, size_aspect, first_form, size_form}
+use Rattle.rx_forms.specs.Code.{formed_all, domains_in, limits_in}
+use Rattle.rx_forms.specs.Worked.{HasAspect, size_otherwise}
+use Rattle.rx_forms.specs.Fronts.{Front, front_of, after_end}
+use Rattle.rx_forms.proofs.Reaching.{both_ok}
+use Rattle.rx_layout.specs.Made.{after_any, after_target, formula_behind, units_behind, behind, size_behind}
+use Rattle.rx_layout.specs.QueryOf.{goal_step, position_formula, grid_formula, overlay_formula, cover_formula, null_formula, no_multiple, unit_rows}
+use Rattle.rx_layout.proofs.Gathered.{if_ok}
+use Rattle.rx_layout.proofs.Behind
+use Rattle.rx_layout.proofs.asked.ask_first.Goals as goal
+
+pub ask_condition-requires : goal.ask_condition-requires
+ask_condition-requires c = record { formable = c.requires.formable; narrow = c.requires.narrow; room = c.requires.room }
+
+pub returns-in_err-ask_condition : goal.returns-in_err-ask_condition
+returns-in_err-ask_condition c =
+    record {
+      first = IfOk-from_err c.from_residual.result _ c.from_residual.ensures.0;
+      gone = IfOk-from_err c.from_residual.result _ c.from_residual.ensures.0;
+      room = IfOk-from_err c.from_residual.result _ c.from_residual.ensures.0;
+    }
+
+pub target_first-requires : goal.target_first-requires
+target_first-requires c = record { formable = c.requires.formable; narrow = c.requires.narrow; room = c.in_ok-ask_condition.ensures.room }
+
+pub returns : goal.returns
+returns c =
+    let domains = domains_in c.args.scalars.now in
+    let m = graph_of c.args.message.now in
+    let link = arrow_of c.args.link.now in
+    let r = c.target_first.result in
+    let h = c.in_ok-ask_condition.ensures.gone in
+    record {
+      first = if_ok r _ _ (λ f e. e ∙ ap (λ (x : Front). form_or link.first x.fields x.division (end_form x.fields)) h) c.target_first.ensures.first;
+      gone = if_ok r _ _ (λ f e. e ∙ ap (λ (x : Front). after_any domains m link.first x) h) c.target_first.ensures.gone;
+      room = c.target_first.ensures.room;
+    }

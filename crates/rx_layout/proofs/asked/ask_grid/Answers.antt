@@ -1,0 +1,53 @@
+use Rattle.std.proofs.Common.{◌≡◌, ℕ, refl, sym, ap, ◌∙◌, subst, ◌≤◌, ◌+◌, arith, List, [], ◌∷◌, true, IfOk, OnOk, Option, Some, None}
+use Rattle.std.proofs.lemmas.Result.{IfOk-from_err, on_ok_weaker}
+use Rattle.rx_types.specs.Narrow.{places_in_bits}
+use Rattle.rx_graph.specs.Graph.{graph_of, arrow_of, type_of}
+use Rattle.rx_forms.specs.declared.linear.Linear.{Linear}
+use Rattle.rx_forms.specs.declared.field.FieldForms.{FieldForms}
+use Rattle.rx_types.specs.declared.interval.Interval.{Interval}
+use Rattle.rx_forms.specs.declared.linear.Form.{Form}
+use Rattle.rx_forms.specs.Steps.{size_aspect, first_form, size_form, end_form, target_field}
+use Rattle.rx_forms.specs.Normal.{Formed, formed_of}
+use Rattle.rx_forms.specs.Code.{formed_all, domains_in, limits_in}
+use Rattle.rx_forms.specs.Fronts.{Front, front_of, after_end}
+use Rattle.rx_layout.specs.Made.{after_any, after_target, formula_behind, units_behind, behind}
+use Rattle.rx_layout.specs.QueryOf.{goal_step, position_formula, grid_formula, overlay_formula, cover_formula, null_formula, no_multiple, unit_rows, interval_or, rest_interval}
+use Rattle.rx_layout.proofs.Gathered.{if_ok}
+use Rattle.rx_layout.proofs.Behind
+use Rattle.rx_layout.proofs.asked.ask_grid.Goals as goal
+
+pub ask_target-requires : goal.ask_target-requires
+ask_target-requires c = record { formable = c.requires.formable; narrow = c.requires.narrow; room = c.requires.room }
+
+pub returns-in_err-target : goal.returns-in_err-target
+returns-in_err-target c = record { gone = IfOk-from_err c.from_residual.result _ c.from_residual.ensures.0; room = IfOk-from_err c.from_residual.result _ c.from_residual.ensures.0 }
+
+pub returns-in_err-formula : goal.returns-in_err-formula
+returns-in_err-formula c = record { gone = IfOk-from_err c.from_residual-in_err-formula.result _ c.from_residual-in_err-formula.ensures.0; room = IfOk-from_err c.from_residual-in_err-formula.result _ c.from_residual-in_err-formula.ensures.0 }
+
+pub returns-in_err-push_formula : goal.returns-in_err-push_formula
+returns-in_err-push_formula c = record { gone = IfOk-from_err c.from_residual-in_err-push_formula.result _ c.from_residual-in_err-push_formula.ensures.0; room = IfOk-from_err c.from_residual-in_err-push_formula.result _ c.from_residual-in_err-push_formula.ensures.0 }
+
+pub grid_formula-requires : goal.grid_formula-requires
+grid_formula-requires c = record { few = c.in_ok-target.ensures.room }
+
+pub push_quotients-requires : goal.push_quotients-requires
+push_quotients-requires c = record { narrow = c.requires.narrow; room = subst (λ (k : ℕ). k ≤ 190) (sym (ap (λ (x : Front). x.division) c.in_ok-push_formula.ensures)) c.in_ok-target.ensures.room }
+
+pub returns : goal.returns
+returns c =
+    let domains = domains_in c.args.scalars.now in
+    let m = graph_of c.args.message.now in
+    let link = arrow_of c.args.link.now in
+    let front = front_of c.args.builder.now in
+    let t = c.in_ok-target.ensures in
+    let mid = front_of c.ask_target.new.builder in
+    let last = front_of c.push_formula.new.builder in
+    let new = front_of c.push_quotients.new.builder in
+    record {
+      gone = if_ok c.push_quotients.result _ _ (λ v h. Behind.grid_on domains m front mid last new link c.in_ok-target.target.first c.in_ok-target.target.size c.in_ok-formula.formula c.requires.bytes t.gone t.target c.in_ok-formula.ensures c.in_ok-push_formula.ensures h) c.push_quotients.ensures;
+      room = if_ok c.push_quotients.result _ _ (λ v h. next_room mid.division last.division new.division (ap (λ (x : Front). x.division) c.in_ok-push_formula.ensures) (ap (λ (x : Front). x.division) h) t.room) c.push_quotients.ensures;
+    }
+  where
+    next_room : (a b d : ℕ) → b ≡ a → d ≡ b + 2 → a ≤ 190 → d ≤ 192
+    next_room a b d e h r = omega (arith, e, h, r)

@@ -1,0 +1,59 @@
+use Rattle.std.proofs.Common.{◌≡◌, ℕ, refl, sym, ap, ◌∙◌, subst, ◌≤◌, ◌+◌, arith, List, [], ◌∷◌, true, IfOk, OnOk, Option, Some, None}
+use Rattle.std.proofs.lemmas.Result.{IfOk-from_err, on_ok_weaker}
+use Rattle.rx_types.specs.Domain.{Domain}
+use Rattle.rx_graph.specs.Graph.{graph_of, arrow_of, type_of}
+use Rattle.rx_forms.specs.declared.field.FieldForms.{FieldForms}
+use Rattle.rx_forms.specs.declared.linear.Linear.{Linear}
+use Rattle.rx_forms.specs.Steps.{form_or, end_form, size_aspect, first_form, size_form, target_field}
+use Rattle.rx_forms.specs.Code.{formed_all, domains_in, limits_in}
+use Rattle.rx_forms.specs.Worked.{HasAspect, size_otherwise}
+use Rattle.rx_forms.specs.Fronts.{Front, front_of, after_end}
+use Rattle.rx_forms.proofs.Reaching.{both_ok}
+use Rattle.rx_layout.specs.Made.{after_any, after_target, formula_behind, units_behind, behind, size_behind}
+use Rattle.rx_layout.specs.QueryOf.{goal_step, position_formula, grid_formula, overlay_formula, cover_formula, null_formula, no_multiple, unit_rows}
+use Rattle.rx_layout.proofs.Gathered.{if_ok}
+use Rattle.rx_layout.proofs.Behind
+use Rattle.rx_layout.proofs.asked.ask_target.Goals as goal
+
+pub ask_first-requires : goal.ask_first-requires
+ask_first-requires c = record { formable = c.requires.formable; narrow = c.requires.narrow; room = c.requires.room }
+
+pub returns-in_err-first : goal.returns-in_err-first
+returns-in_err-first c =
+    record {
+      target = IfOk-from_err c.from_residual.result _ c.from_residual.ensures.0;
+      gone = IfOk-from_err c.from_residual.result _ c.from_residual.ensures.0;
+      room = IfOk-from_err c.from_residual.result _ c.from_residual.ensures.0;
+    }
+
+pub target_size-requires : goal.target_size-requires
+target_size-requires c = record { formable = c.requires.formable; narrow = c.requires.narrow; room = c.in_ok-first.ensures.room }
+
+pub returns-in_err-size : goal.returns-in_err-size
+returns-in_err-size c =
+    record {
+      target = IfOk-from_err c.from_residual-in_err-size.result _ c.from_residual-in_err-size.ensures.0;
+      gone = IfOk-from_err c.from_residual-in_err-size.result _ c.from_residual-in_err-size.ensures.0;
+      room = IfOk-from_err c.from_residual-in_err-size.result _ c.from_residual-in_err-size.ensures.0;
+    }
+
+pub returns : goal.returns
+returns c =
+    let domains = domains_in c.args.scalars.now in
+    let m = graph_of c.args.message.now in
+    let link = arrow_of c.args.link.now in
+    let front = front_of c.args.builder.now in
+    let mid = front_of c.ask_first.new.builder in
+    let type = type_of domains m (target_field link.target) in
+    let first = c.in_ok-first.first in
+    let f = c.in_ok-first.ensures in
+    let s = c.in_ok-size.ensures in
+    let field = ap (λ (x : ℕ). type_of domains m x) c.target_field-field.ensures in
+    record {
+      target = record {
+        begins = f.first;
+        extends = s.size ∙ ap (λ (t : Option Domain). size_behind t first link.size mid) field ∙ Behind.size_is domains m type front mid link first f.gone f.first;
+      };
+      gone = s.gone ∙ ap (λ (t : Option Domain). after_any domains m (size_aspect t link.size) mid) field ∙ ap (λ (x : Front). after_any domains m (size_aspect type link.size) x) f.gone;
+      room = s.room;
+    }

@@ -1,0 +1,35 @@
+use Rattle.std.proofs.Common.{◌≡◌, ℕ, refl, sym, ap, ◌∙◌, subst, ◌≤◌, ◌+◌, arith, List, [], ◌∷◌, true, IfOk, OnOk, Option, Some, None}
+use Rattle.std.proofs.lemmas.Result.{IfOk-from_err, on_ok_weaker}
+use Rattle.rx_graph.specs.Graph.{graph_of, arrow_of, type_of}
+use Rattle.rx_forms.specs.declared.linear.Linear.{Linear}
+use Rattle.rx_forms.specs.declared.field.FieldForms.{FieldForms}
+use Rattle.rx_forms.specs.Steps.{size_aspect, first_form, size_form, end_form, target_field}
+use Rattle.rx_forms.specs.Normal.{Formed, formed_of}
+use Rattle.rx_forms.specs.Code.{formed_all, domains_in, limits_in}
+use Rattle.rx_forms.specs.Fronts.{Front, front_of, after_end}
+use Rattle.rx_layout.specs.Made.{after_any, after_target, formula_behind, units_behind, behind}
+use Rattle.rx_layout.specs.QueryOf.{goal_step, position_formula, grid_formula, overlay_formula, cover_formula, null_formula, no_multiple, unit_rows}
+use Rattle.rx_layout.proofs.Gathered.{if_ok}
+use Rattle.rx_layout.proofs.Behind
+use Rattle.rx_layout.proofs.asked.ask_two.Goals as goal
+
+pub ask_condition-requires : goal.ask_condition-requires
+ask_condition-requires c = record { formable = c.requires.formable.0; narrow = c.requires.narrow.0; room = c.requires.room }
+
+pub ask_condition-requires-2 : goal.ask_condition-requires-2
+ask_condition-requires-2 c = record { formable = c.requires.formable.1; narrow = c.requires.narrow.1; room = c.in_ok-ask_condition.ensures.room }
+
+pub returns-in_err-ask_condition : goal.returns-in_err-ask_condition
+returns-in_err-ask_condition c = record { gone = IfOk-from_err c.from_residual.result _ c.from_residual.ensures.0; room = IfOk-from_err c.from_residual.result _ c.from_residual.ensures.0 }
+
+pub returns : goal.returns
+returns c =
+    let domains = domains_in c.args.scalars.now in
+    let m = graph_of c.args.message.now in
+    let front = front_of c.args.builder.now in
+    let one = arrow_of c.args.one.now in
+    let other = arrow_of c.args.other.now in
+    record {
+      gone = if_ok c.ask_condition-2.result _ _ (λ v h. h ∙ ap (λ (x : Front). after_end domains m x other) c.in_ok-ask_condition.ensures.gone ∙ sym (Behind.two_behind domains m front one other)) c.ask_condition-2.ensures.gone;
+      room = c.ask_condition-2.ensures.room;
+    }

@@ -1,0 +1,43 @@
+use Rattle.std.proofs.Common.{◌≡◌, ℕ, refl, sym, ap, ◌∙◌, subst, ◌≤◌, ◌+◌, arith, List, [], ◌∷◌, true, IfOk, OnOk, Option, Some, None}
+use Rattle.std.proofs.lemmas.Result.{IfOk-from_err, on_ok_weaker}
+use Rattle.rx_types.specs.Narrow.{places_in_bits}
+use Rattle.rx_graph.specs.Graph.{graph_of, arrow_of, type_of}
+use Rattle.rx_forms.specs.declared.linear.Linear.{Linear}
+use Rattle.rx_forms.specs.declared.field.FieldForms.{FieldForms}
+use Rattle.rx_types.specs.declared.interval.Interval.{Interval}
+use Rattle.rx_forms.specs.declared.linear.Form.{Form}
+use Rattle.rx_forms.specs.Steps.{size_aspect, first_form, size_form, end_form, target_field}
+use Rattle.rx_forms.specs.Normal.{Formed, formed_of}
+use Rattle.rx_forms.specs.Code.{formed_all, domains_in, limits_in}
+use Rattle.rx_forms.specs.Fronts.{Front, front_of, after_end}
+use Rattle.rx_layout.specs.Made.{after_any, after_target, formula_behind, units_behind, behind}
+use Rattle.rx_layout.specs.QueryOf.{goal_step, position_formula, grid_formula, overlay_formula, cover_formula, null_formula, no_multiple, unit_rows, interval_or, rest_interval}
+use Rattle.rx_layout.proofs.Gathered.{if_ok}
+use Rattle.rx_layout.proofs.Behind
+use Rattle.rx_layout.proofs.asked.push_quotients.Goals as goal
+
+pub interval_or-first-requires : goal.interval_or-first-requires
+interval_or-first-requires c = record { narrow = c.requires.narrow.first; short = c.places.ensures.short }
+
+pub push_quotient-requires : goal.push_quotient-requires
+push_quotient-requires c = record { short = c.interval_or-first.ensures.short; room = omega (arith, c.requires.room) }
+
+pub returns-in_err-push_quotient : goal.returns-in_err-push_quotient
+returns-in_err-push_quotient c = IfOk-from_err c.from_residual.result _ c.from_residual.ensures.0
+
+pub interval_or-size-requires : goal.interval_or-size-requires
+interval_or-size-requires c = record { narrow = c.requires.narrow.size; short = c.rest.ensures.short }
+
+pub push_quotient-requires-2 : goal.push_quotient-requires-2
+push_quotient-requires-2 c = let e = ap (λ (x : Front). x.division) c.in_ok-push_quotient.ensures in record { short = c.interval_or-size.ensures.short; room = omega (arith, e, c.requires.room) }
+
+pub returns : goal.returns
+returns c =
+    let limit = limits_in c.args.scalars.now c.args.message.now in
+    let link = arrow_of c.args.link.now in
+    let front = front_of c.args.builder.now in
+    let mid = front_of c.push_quotient.new.builder in
+    let new = front_of c.push_quotient-2.new.builder in
+    let i = c.interval_or-first.ensures.value ∙ ap (λ (x : Interval). interval_or limit link.first x) c.places.ensures.value in
+    let j = c.interval_or-size.ensures.value ∙ ap (λ (x : Interval). interval_or limit link.size x) c.rest.ensures.value in
+    if_ok c.push_quotient-2.result _ _ (λ v h. Behind.two_units front mid new (interval_or limit link.first places_in_bits) (interval_or limit link.size rest_interval) (c.in_ok-push_quotient.ensures ∙ ap (λ (x : Interval). units_behind (unit_rows front.division x) 1 front) i) (h ∙ ap (λ (x : Interval). units_behind (unit_rows mid.division x) 1 mid) j)) c.push_quotient-2.ensures

@@ -1,0 +1,46 @@
+use Rattle.std.proofs.Common.{◌≡◌, refl, sym, ap, ◌∙◌, subst, ◌≤◌, ◌+◌, arith, List, [], ◌∷◌, true, IfOk, OnOk, Option, Some, None}
+use Rattle.std.proofs.lemmas.Result.{IfOk-from_err, on_ok_weaker}
+use Rattle.rx_types.specs.Domain.{Domain}
+use Rattle.rx_graph.specs.Graph.{graph_of, arrow_of, type_of}
+use Rattle.rx_forms.specs.declared.field.FieldForms.{FieldForms}
+use Rattle.rx_forms.specs.declared.linear.Linear.{Linear}
+use Rattle.rx_forms.specs.Steps.{form_or, end_form, size_aspect, first_form, size_form}
+use Rattle.rx_forms.specs.Code.{formed_all, domains_in, limits_in}
+use Rattle.rx_forms.specs.Worked.{HasAspect, size_otherwise}
+use Rattle.rx_forms.specs.Fronts.{Front, front_of, after_end}
+use Rattle.rx_forms.proofs.Reaching.{both_ok}
+use Rattle.rx_layout.specs.Made.{after_any, after_target, formula_behind, units_behind, behind, size_behind}
+use Rattle.rx_layout.specs.QueryOf.{goal_step, position_formula, grid_formula, overlay_formula, cover_formula, null_formula, no_multiple, unit_rows}
+use Rattle.rx_layout.proofs.Gathered.{if_ok}
+use Rattle.rx_layout.proofs.Behind
+use Rattle.rx_layout.proofs.asked.target_size.Goals as goal
+
+pub size_form-requires-clause-numeric : goal.size_form-requires-clause-numeric
+size_form-requires-clause-numeric c = c.requires.formable.size
+
+pub size_form-requires-clause-narrow : goal.size_form-requires-clause-narrow
+size_form-requires-clause-narrow c = c.requires.narrow.size
+
+pub size_form-requires-clause-room : goal.size_form-requires-clause-room
+size_form-requires-clause-room c = c.requires.room
+
+pub returns : goal.returns
+returns c =
+    let domains = domains_in c.args.scalars.now in
+    let m = graph_of c.args.message.now in
+    let limit = limits_in c.args.scalars.now c.args.message.now in
+    let front = front_of c.args.builder.now in
+    let type = type_of domains m c.args.field in
+    let size = (arrow_of c.args.link.now).size in
+    let aspect = size_aspect type size in
+    let other = size_otherwise type c.args.first.now in
+    let w0 = c.args.builder.now.work in
+    let w1 = c.size_form.new.work in
+    let r = c.size_form.result in
+    let has = λ (f : Linear). HasAspect limit front.fields aspect other w0 w1 f in
+    let a = subst (λ (fs : List FieldForms). IfOk r (λ f. HasAspect limit (formed_all fs) aspect other w0 w1 f)) c.as_slice.ensures.value c.size_form.ensures.aspect in
+    record {
+      size = if_ok r has (λ f. f ≡ form_or aspect front.fields front.division other) (λ f h. h.value) a;
+      gone = if_ok r has (λ f. record front { division = w1.next; rows = w1.rows } ≡ after_any domains m aspect front) (λ f h. Behind.aspect_behind domains m front aspect w1.next w1.rows h.next h.rows) a;
+      room = if_ok r has (λ f. w1.next ≤ 190) (λ f h. Behind.aspect_room front.fields w0.next w1.next aspect (form_or aspect front.fields front.division other) h.next h.within) a;
+    }

@@ -1,0 +1,7 @@
+use Rattle.std.proofs.Common.{◌≡◌, ◌++◌, map, drop}
+use Rattle.rx_forms.specs.Linear.{above}
+use Rattle.rx_forms.specs.Code.{formed_all}
+use Rattle.rx_layout.proofs.formula.ends_after.Given as goal
+
+abbrev pub invariant-loop-field : goal.invariant-loop-field
+invariant-loop-field l = l.forms ++ map (λ f. above f.end l.place) (formed_all (drop l.field-index l.fields)) ≡ map (λ f. above f.end l.place) (formed_all l.fields)

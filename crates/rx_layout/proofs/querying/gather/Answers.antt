@@ -1,0 +1,61 @@
+use Rattle.std.proofs.Common.{◌≡◌, ℕ, sym, ap, ◌∙◌, subst, ◌+◌, ◌≤◌, ◌<◌, arith}
+use Rattle.std.proofs.lemmas.Result.{IfOk-from_err}
+use Rattle.rx_graph.specs.Graph.{graph_of}
+use Rattle.rx_forms.specs.Steps.{links_on}
+use Rattle.rx_forms.specs.Gathered.{into_fields}
+use Rattle.rx_forms.specs.Code.{domains_in}
+use Rattle.rx_forms.specs.Fronts.{Front, front_of, first_front, after_links}
+use Rattle.rx_forms.proofs.Looping
+use Rattle.rx_layout.specs.Made.{behind}
+use Rattle.rx_layout.specs.QueryOf.{asked_by}
+use Rattle.rx_layout.proofs.querying.gather.Goals as goal
+
+few_ends : (s n t : ℕ) → s ≡ 1 → n ≡ t → n < 190 → s + t ≤ 190
+few_ends s n t e h k = omega (arith, e, h, k)
+
+room_first : (d n : ℕ) → d ≡ 1 + n → n < 190 → d ≤ 190
+room_first d n e k = omega (arith, e, k)
+
+pub start-builder-requires : goal.start-builder-requires
+start-builder-requires c = record { few = c.requires.few }
+
+pub gather_fields-requires : goal.gather_fields-requires
+gather_fields-requires c =
+    let e = c.start-builder.ensures in
+    record {
+      formable = c.requires.formable;
+      narrow = c.requires.narrow;
+      few = few_ends c.start-builder.result.scalar c.args.count _ (ap (λ (x : Front). x.scalar) e) c.requires.count c.requires.few;
+      room = room_first c.start-builder.result.work.next c.args.count (ap (λ (x : Front). x.division) e) c.requires.few;
+    }
+
+pub returns-in_err-gather_fields : goal.returns-in_err-gather_fields
+returns-in_err-gather_fields c = record { gone = IfOk-from_err c.from_residual.result _ c.from_residual.ensures.0; room = IfOk-from_err c.from_residual.result _ c.from_residual.ensures.0 }
+
+pub ask-requires : goal.ask-requires
+ask-requires c =
+    let domains = domains_in c.args.scalars.now in
+    let m = graph_of c.args.message.now in
+    let links = into_fields (links_on domains m c.args.path.now) in
+    let first = front_of c.start-builder.result in
+    let g = c.in_ok-gather_fields.ensures in
+    record {
+      formable = c.requires.formable;
+      narrow = c.requires.narrow;
+      room = subst (λ (x : Front). x.division ≤ 190) (sym g.gone) (Looping.links_room domains m first links (room_first c.start-builder.result.work.next c.args.count (ap (λ (x : Front). x.division) c.start-builder.ensures) c.requires.few) g.within);
+      goal = c.requires.goal;
+    }
+
+pub returns-in_err-ask : goal.returns-in_err-ask
+returns-in_err-ask c = record { gone = IfOk-from_err c.from_residual-in_err-ask.result _ c.from_residual-in_err-ask.ensures.0; room = IfOk-from_err c.from_residual-in_err-ask.result _ c.from_residual-in_err-ask.ensures.0 }
+
+pub returns : goal.returns
+returns c =
+    let domains = domains_in c.args.scalars.now in
+    let m = graph_of c.args.message.now in
+    let links = into_fields (links_on domains m c.args.path.now) in
+    let e = c.start-builder.ensures ∙ ap first_front c.requires.count in
+    record {
+      gone = c.in_ok-ask.ensures.gone ∙ ap (λ (x : Front). behind (asked_by domains m c.args.goal.now x.fields x.division) x) (c.in_ok-gather_fields.ensures.gone ∙ ap (λ (x : Front). after_links domains m x links) e);
+      room = c.in_ok-ask.ensures.room;
+    }
