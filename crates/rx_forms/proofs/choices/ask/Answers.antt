@@ -1,4 +1,4 @@
-use Rattle.std.proofs.Common.{◌≡◌, sym, ap, subst, ℕ, List, [], ◌∷◌, Option, Some, IfOk}
+use Rattle.std.proofs.Common.{◌≡◌, sym, ap, subst, List, IfOk}
 use Rattle.rx_graph.specs.Graph.{Arrow, graph_of, arrow_of}
 use Rattle.rx_forms.specs.Code.{domains_in, formed_all}
 use Rattle.rx_forms.specs.Choices.{asked}

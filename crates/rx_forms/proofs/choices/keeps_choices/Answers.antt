@@ -1,4 +1,4 @@
-use Rattle.std.proofs.Common.{◌≡◌, sym, ap, ◌∙◌, [], Bool, true, false, ◌&&◌, drop, ◌+◌, arith}
+use Rattle.std.proofs.Common.{sym, ap, ◌∙◌, Bool, ◌&&◌, drop, ◌+◌}
 use Rattle.std.proofs.lemmas.List.{drop_all}
 use Rattle.rx_graph.specs.Graph.{graph_of}
 use Rattle.rx_forms.specs.Code.{domains_in, formed_all}

@@ -1,4 +1,4 @@
-use Rattle.std.proofs.Common.{◌≡◌, ◌≤◌, sym, subst, ap, ◌∙◌, ℕ, List, [], ◌∷◌, get_or, drop, IfOk, Ok, Err, Result, Bool, ◌&&◌, ◌+◌}
+use Rattle.std.proofs.Common.{◌≡◌, ◌≤◌, sym, subst, ◌∙◌, ℕ, List, [], ◌∷◌, get_or, drop, IfOk, Ok, Err, Result, Bool, ◌&&◌, ◌+◌}
 use Rattle.std.specs.List.{list_all}
 use Rattle.rx_graph.specs.Graph.{graph_of}
 use Rattle.rx_forms.specs.Code.{domains_in, formed_all}

@@ -1,4 +1,4 @@
-use Rattle.std.proofs.Common.{◌≡◌, sym, ◌∙◌, [], ◌∷◌}
+use Rattle.std.proofs.Common.{sym, ◌∙◌, [], ◌∷◌}
 use Rattle.rx_graph.specs.Graph.{graph_of}
 use Rattle.rx_forms.specs.Code.{domains_in, formed_all}
 use Rattle.rx_forms.specs.Gathered.{past}

@@ -1,8 +1,6 @@
-use Rattle.std.proofs.Common.{refl, [], ◌∷◌, get_or}
+use Rattle.std.proofs.Common.{get_or}
 use Rattle.rx_graph.specs.Graph.{graph_of}
 use Rattle.rx_forms.specs.Code.{domains_in, formed_all}
-use Rattle.rx_forms.specs.Steps.{links_on}
-use Rattle.rx_forms.specs.Choices.{conditions_within}
 use Rattle.rx_forms.proofs.Asking.{goes_on, stops, all_asked}
 use Rattle.rx_forms.proofs.Chosen.{alone_at, same_item}
 use Rattle.rx_forms.proofs.choices.keeps_ones.Goals as goal

@@ -1,6 +1,5 @@
-use Rattle.std.proofs.Common.{◌≡◌, sym, subst, ap, ◌∙◌, ℕ, List, IfOk, arith}
+use Rattle.std.proofs.Common.{◌≡◌, subst, List, IfOk}
 use Rattle.std.proofs.lemmas.Result.{IfOk-weaker}
-use Rattle.std.specs.List.{list_all}
 use Rattle.rx_graph.specs.Graph.{graph_of}
 use Rattle.rx_forms.specs.declared.field.FieldForms.{FieldForms}
 use Rattle.rx_forms.specs.Code.{domains_in, formed_all}
