@@ -1,21 +1,11 @@
 -- Counts of checks by their verdicts.
-use Rattle.std.proofs.Common.{◌≡◌, refl, sym, ap, ◌∙◌, inl, inr, ℕ, ◌+◌, ◌<◌, ◌≤◌, ◌⊎◌, arith, List, [], ◌∷◌, ◌++◌, length, get_or, drop}
-use Rattle.std.proofs.lemmas.List.{length-append, drop_more, drop_all}
-use Rattle.rx_types.specs.Domain.{Domain}
-use Rattle.rx_graph.specs.Graph.{Graph}
+use Rattle.std.proofs.Common.{◌≡◌, sym, ap, ◌∙◌, inl, inr, ℕ, ◌+◌, ◌<◌, ◌⊎◌, arith, List, [], ◌∷◌, length, get_or, drop}
+use Rattle.std.proofs.lemmas.List.{drop_more}
 use Rattle.rx_checks.specs.declared.verdict.Verdict.{Verdict}
 use Rattle.rx_checks.specs.declared.verdict.Verdict.TheVariants.{Passed, Failed, Undecided}
 use Rattle.rx_checks.specs.declared.report.Line.{Line}
 use Rattle.rx_checks.specs.Reports.{AllPassed, HasPassed}
-use Rattle.rx_report.specs.Lines.{line_text, Counts, with_verdict, counted}
-
-abbrev pub total : Counts → ℕ
-total c = c.passed + c.failed + c.undecided
-
-pub total_more : (verdict : Verdict) (c : Counts) → total (with_verdict verdict c) ≡ total c + 1
-total_more (Passed evidence) c = omega arith
-total_more (Failed evidence) c = omega arith
-total_more (Undecided path tree) c = omega arith
+use Rattle.rx_report.specs.Lines.{Counts, with_verdict, counted}
 
 -- one line more
 pub counted_more : (lines : List Line) (i : ℕ) (line : Line) (now new : Counts) → i < length lines → line ≡ get_or lines i line → new ≡ with_verdict line.verdict now → counted (drop (i + 1) lines) new ≡ counted (drop i lines) now
@@ -23,9 +13,6 @@ counted_more lines i line now new within is put =
     ap (counted (drop (i + 1) lines)) put
     ∙ ap (λ (l : Line). counted (drop (i + 1) lines) (with_verdict l.verdict now)) is
     ∙ sym (ap (λ (ls : List Line). counted ls now) (drop_more lines i line within))
-
-pub counted_all : (lines : List Line) (i : ℕ) (now whole : Counts) → length lines ≤ i → counted (drop i lines) now ≡ whole → now ≡ whole
-counted_all lines i now whole end is = sym (ap (λ (ls : List Line). counted ls now) (drop_all i lines end)) ∙ is
 
 -- ---- lines that have not passed
 
@@ -49,11 +36,3 @@ open_next line lines c (Undecided path tree) rest none = stays_open lines (with_
 pub open_unless_passed : (lines : List Line) (c : Counts) → (AllPassed lines → ⊥) → IsOpen (counted lines c)
 open_unless_passed [] c none = absurd (none tt)
 open_unless_passed (line ∷ lines) c none = open_next line lines c line.verdict (λ d rest. open_unless_passed lines d rest) none
-
--- ---- a line is no empty text
-
-ends_long : (xs : List ℕ) → 0 < length (xs ++ 10 ∷ [])
-ends_long xs = omega (arith, length-append xs (10 ∷ []))
-
-pub line_long : (domains : List Domain) (m : Graph) (splits : ℕ) (line : Line) (old : List ℕ) → length old < length (old ++ line_text domains m splits line)
-line_long domains m splits line old = let long : 0 < length (line_text domains m splits line) = ends_long _ in omega (arith, length-append old (line_text domains m splits line))

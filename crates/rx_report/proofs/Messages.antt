@@ -47,9 +47,9 @@ module _ (domains : List Domain) (splits : ℕ) where
     are = are_more ms told.reports m adds.report told.are adds.is;
     counts = adds.counts ∙ ap (counted adds.report.lines.items) told.counts ∙ sym (all_counted_more told.reports adds.report none_counted);
     text =
-      adds.text
-      ∙ ap (λ (t : List ℕ). t ++ lines_text domains m splits adds.report.lines.items) told.text
-      ∙ sym (lines_more ms told.reports m adds.report told.are);
+        adds.text
+        ∙ ap (λ (t : List ℕ). t ++ lines_text domains m splits adds.report.lines.items) told.text
+        ∙ sym (lines_more ms told.reports m adds.report told.are);
   }
 
   pub told_next : (b : Bool) (ms : List Graph) (m : Graph) (before after : Reported) → IsToldOf ms before → AddsIf domains splits b m before after → IsToldOf (ms ++ cond b (m ∷ []) []) after
@@ -62,9 +62,9 @@ module _ (domains : List Domain) (splits : ℕ) where
     are = told.are;
     counts = counts ∙ told.counts;
     text =
-      text
-      ∙ ap (λ (t : List ℕ). t ++ closing_text (counts_in before)) told.text
-      ∙ ap (λ (c : Counts). all_lines domains splits ms told.reports ++ closing_text c) (sym counts);
+        text
+        ∙ ap (λ (t : List ℕ). t ++ closing_text (counts_in before)) told.text
+        ∙ ap (λ (c : Counts). all_lines domains splits ms told.reports ++ closing_text c) (sym counts);
   }
 
 -- ---- the messages of a package
@@ -72,7 +72,7 @@ module _ (domains : List Domain) (splits : ℕ) where
 filter_last : (p : Graph → Bool) (ms : List Graph) (m : Graph) → filter p (ms ++ m ∷ []) ≡ filter p ms ++ cond (p m) (m ∷ []) []
 filter_last p [] m = elim (p m) as (λ b. cond b (m ∷ []) [] ≡ cond b (m ∷ []) []) [ true ↦ refl | false ↦ refl ]
 filter_last p (n ∷ ms) m = elim (p n) as (λ b. cond b (n ∷ filter p (ms ++ m ∷ [])) (filter p (ms ++ m ∷ [])) ≡ cond b (n ∷ filter p ms) (filter p ms) ++ cond (p m) (m ∷ []) []) [
-  true ↦ ap (λ (t : List Graph). n ∷ t) (filter_last p ms m)
+  | true ↦ ap (λ (t : List Graph). n ∷ t) (filter_last p ms m)
   | false ↦ filter_last p ms m
 ]
 

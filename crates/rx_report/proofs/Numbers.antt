@@ -1,8 +1,8 @@
 -- Valuations that grow by a field behind those of lesser ids.
-use Rattle.std.proofs.Common.{◌≡◌, refl, sym, ap, ◌∙◌, subst, ℕ, zero, suc, ◌+◌, ◌<◌, ◌≤◌, ◌==◌, nat_lt, arith, Bool, true, false, List, [], ◌∷◌, ◌++◌, length, get_or, drop, Option, Some, None, if◌then◌else◌}
+use Rattle.std.proofs.Common.{◌≡◌, refl, sym, ap, ◌∙◌, ℕ, ◌+◌, ◌<◌, arith, Bool, List, [], ◌∷◌, ◌++◌, length, drop, Option, Some, None, if◌then◌else◌}
 use Rattle.std.specs.List.{AllByRecursion}
 use Rattle.std.proofs.lemmas.Bool.{lt-ltb, ne_eqb}
-use Rattle.std.proofs.lemmas.List.{append-nil, append_assoc, drop_more, drop_all}
+use Rattle.std.proofs.lemmas.List.{append_assoc, drop_more}
 use Rattle.rx_graph.specs.declared.message.Field.{Field}
 use Rattle.rx_graph.specs.Fits.{Content, Assigned, content_of}
 use Rattle.rx_values.specs.Valuation.{inserted}
@@ -40,6 +40,3 @@ values_more number (f ∷ fields) i values new within put =
     ap (λ (vs : List Assigned). vs ++ values_from number (i + 1) (drop (i + 1) (f ∷ fields))) put
     ∙ append_assoc values (assigned_if i (number i)) (values_from number (i + 1) (drop (i + 1) (f ∷ fields)))
     ∙ sym (ap (λ (fs : List Field). values ++ values_from number i fs) (drop_more (f ∷ fields) i f within))
-
-pub values_all : (number : ℕ → Option ℕ) (fields : List Field) (i : ℕ) (values whole : List Assigned) → length fields ≤ i → values ++ values_from number i (drop i fields) ≡ whole → values ≡ whole
-values_all number fields i values whole end is = sym (append-nil values) ∙ sym (ap (λ (fs : List Field). values ++ values_from number i fs) (drop_all i fields end)) ∙ is

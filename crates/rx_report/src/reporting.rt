@@ -46,7 +46,31 @@ fn add_message(
         splits,
         report.lines.as_slice(),
         reported,
-    )
+    )?;
+    Ok(())
+}
+
+// Adds the lines of a message and counts its checks, if it is asked for.
+fn add_if_asked(
+    alloc: Global,
+    spec: &Spec,
+    message: &Message,
+    asked: bool,
+    splits: u32,
+    reported: &mut Reported,
+) -> Result<(), NoMemory>
+    requires message { MayBeChecked (domains_of spec.now) (graph_of message.now) }
+    requires boolean { (d : Domain) → slice_get (domains_of spec.now) 0 ≡ Some d → d ≡ boolean }
+    requires few { (1 ≤ splits) × (splits ≤ 4096) }
+    requires bounded { total_in reported.old ≤ length reported.old.text.items }
+    ensures adds { OnOk result (AddsIf (domains_of spec.now) splits asked (graph_of message.now) reported.old reported.new) }
+    ensures bounded { OnOk result (total_in reported.new ≤ length reported.new.text.items) }
+{
+    if !asked {
+        return Ok(());
+    }
+    add_message(alloc, spec, message, splits, reported)?;
+    Ok(())
 }
 
 /// The report of all messages of a package, in their order. The walk of a query may take 1 to 4,096 splits.

@@ -13,10 +13,10 @@ loop-line-preserved c =
     let line = c.line-item.result in
     record {
       text =
-        text_more tell c.args.lines.now i line line c.loop-line.reported.text.items c.add_line.new.reported.text.items c.loop-line-test.true c.line-item.is c.in_ok-add_line.ensures.text
-        ∙ c.loop-line.invariant.text;
+          text_more tell c.args.lines.now i line line c.loop-line.reported.text.items c.add_line.new.reported.text.items c.loop-line-test.true c.line-item.is c.in_ok-add_line.ensures.text
+          ∙ c.loop-line.invariant.text;
       counts =
-        counted_more c.args.lines.now i line (counts_in c.loop-line.reported) (counts_in c.add_line.new.reported) c.loop-line-test.true c.line-item.is c.in_ok-add_line.ensures.counts
-        ∙ c.loop-line.invariant.counts;
+          counted_more c.args.lines.now i line (counts_in c.loop-line.reported) (counts_in c.add_line.new.reported) c.loop-line-test.true c.line-item.is c.in_ok-add_line.ensures.counts
+          ∙ c.loop-line.invariant.counts;
       bounded = c.in_ok-add_line.ensures.bounded;
     }

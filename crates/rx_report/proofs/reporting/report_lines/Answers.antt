@@ -1,4 +1,4 @@
-use Rattle.std.proofs.Common.{◌≡◌, ◌∙◌, sym, ap, subst, [], ◌++◌, List}
+use Rattle.std.proofs.Common.{◌∙◌, sym, ap, subst, [], ◌++◌, List}
 use Rattle.rx_checks.specs.declared.report.Line.{Line}
 use Rattle.rx_graph.specs.Graph.{domains_of, graph_of}
 use Rattle.rx_report.specs.Lines.{counted, lines_text}

@@ -1,4 +1,4 @@
-use Rattle.std.proofs.Common.{◌≡◌, ◌∙◌, sym, subst, ap, List, map, take}
+use Rattle.std.proofs.Common.{◌∙◌, sym, subst, ap, List, map, take}
 use Rattle.std.specs.List.{AllByRecursion}
 use Rattle.rx_graph.specs.declared.message.Message.{Message}
 use Rattle.rx_graph.specs.Graph.{Graph, domains_of, graph_of}
@@ -28,9 +28,9 @@ loop-message-preserved c =
     let m = c.message-item.result in
     record {
       told =
-        subst (λ (ns : List Graph). IsToldOf domains c.args.splits ns c.add_if_asked.new.reported)
-        (messages_next name ms i m c.is_same-asked.result c.loop-message-test.true c.message-item.is c.is_same-asked.ensures)
-        (told_next domains c.args.splits c.is_same-asked.result (messages_of name (map graph_of (take i ms))) (graph_of m) c.loop-message.reported c.add_if_asked.new.reported c.loop-message.invariant.told c.in_ok-add_if_asked.ensures.adds);
+          subst (λ (ns : List Graph). IsToldOf domains c.args.splits ns c.add_if_asked.new.reported)
+          (messages_next name ms i m c.is_same-asked.result c.loop-message-test.true c.message-item.is c.is_same-asked.ensures)
+          (told_next domains c.args.splits c.is_same-asked.result (messages_of name (map graph_of (take i ms))) (graph_of m) c.loop-message.reported c.add_if_asked.new.reported c.loop-message.invariant.told c.in_ok-add_if_asked.ensures.adds);
       bounded = c.in_ok-add_if_asked.ensures.bounded;
     }
 

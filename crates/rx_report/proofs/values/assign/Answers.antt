@@ -1,4 +1,4 @@
-use Rattle.std.proofs.Common.{◌≡◌, ◌∙◌, sym, ap, subst, ℕ, ◌+◌, ◌<◌, ◌++◌, length, Option, arith}
+use Rattle.std.proofs.Common.{◌∙◌, sym, ap, subst, ℕ, ◌+◌, ◌<◌, ◌++◌, length, Option, arith}
 use Rattle.rx_graph.specs.Graph.{graph_of}
 use Rattle.rx_report.specs.Subjects.{assigned_if, number_among}
 use Rattle.rx_report.proofs.Numbers.{AllBelow, values_more, below_more}
