@@ -16,15 +16,17 @@ use Rattle.rx_checks.specs.declared.verdict.Verdict.TheVariants.{Passed, Failed,
 use Rattle.rx_checks.specs.declared.report.Line.{Line}
 use Rattle.rx_report.specs.Subjects.{check_name, subject_text, path_text, values_along}
 
-module _ (domains : List Domain) (m : Graph) (splits : ℕ) where
+module _ (domains : List Domain) (m : Graph) where
   -- ` by N proofs of S steps`, or ` on PATH length L JSON`
   abbrev pub evidence_text : Evidence → List ℕ
   evidence_text (Proofs proofs) = codes " by " ++ decimal (length proofs.items) ++ codes " proofs of " ++ decimal (total_steps proofs.items) ++ codes " steps"
   evidence_text (Found path total numbers) = codes " on " ++ path_text m path ++ codes " length " ++ decimal total ++ codes " " ++ json_text domains m (values_along domains m path numbers.items)
 
+module _ (domains : List Domain) (m : Graph) (splits : ℕ) where
+  -- a word, and what shows it or the number of splits
   abbrev pub verdict_text : Verdict → List ℕ
-  verdict_text (Passed evidence) = codes "Passed" ++ evidence_text evidence
-  verdict_text (Failed evidence) = codes "Failed" ++ evidence_text evidence
+  verdict_text (Passed evidence) = codes "Passed" ++ evidence_text domains m evidence
+  verdict_text (Failed evidence) = codes "Failed" ++ evidence_text domains m evidence
   verdict_text (Undecided path tree) = codes "Undecided after " ++ decimal splits ++ codes " splits"
 
   -- `P::M CHECK SUBJECT: VERDICT`

@@ -1,16 +1,16 @@
 -- How goals, paths and the scalars of a path are told.
 --   node_text, check_name, subject_text    a node, a check, and its subject
---   number_of m i                          the number of link i among those of its node, from 1
+--   link_number m i                        the number of link i among those of its node, from 1
 --   path_text m path                       a path, by the numbers of its links
 --   scalars_of, values_along               the scalars of a path, and the numbers that they have
-use Rattle.std.specs.Prelude.{ℕ, ◌+◌, ◌==◌, List, [], ◌∷◌, ◌++◌, length, filter, take, Option, Some, None, slice_get, codes, decimal, if◌then◌else◌}
+use Rattle.std.specs.Prelude.{ℕ, ◌+◌, ◌==◌, List, [], ◌∷◌, ◌++◌, Option, Some, None, is_some, slice_get, position, filter_map, codes, decimal, if◌then◌else◌}
 use Rattle.std.specs.List.{flat_map}
 use Rattle.rx_types.specs.Domain.{Domain}
 use Rattle.rx_graph.specs.declared.message.Node.{Node}
 use Rattle.rx_graph.specs.declared.message.Node.TheVariants.{Start, At, Null}
 use Rattle.rx_graph.specs.declared.message.Field.{Field}
 use Rattle.rx_graph.specs.Graph.{Arrow, Graph, type_of}
-use Rattle.rx_graph.specs.Checks.{is_node}
+use Rattle.rx_graph.specs.Checks.{number_of}
 use Rattle.rx_graph.specs.Fits.{Number, Assigned}
 use Rattle.rx_layout.specs.declared.goal.Goal.{Goal}
 use Rattle.rx_layout.specs.declared.goal.Goal.TheVariants.{Exclusive, Taken, Reached, Position, Grid, Overlay, Cover, Whole}
@@ -51,46 +51,47 @@ subject_text m (Whole node n) = link_text m node n
 
 -- ---- paths
 
--- one more than the links of its node that stand before it
-abbrev pub number_at : Graph → ℕ → Option Arrow → ℕ
-number_at m i None = 0
-number_at m i (Some link) = 1 + length (filter (λ l. is_node link.source l.source) (take i m.links))
+-- links of a node are numbered from 1 in their order
+abbrev pub number_if_any : Graph → ℕ → Option Arrow → ℕ
+number_if_any m i None = 0
+number_if_any m i (Some link) = number_of m.links link.source i
 
-abbrev pub number_of : Graph → ℕ → ℕ
-number_of m i = number_at m i (slice_get m.links i)
+abbrev pub link_number : Graph → ℕ → ℕ
+link_number m i = number_if_any m i (slice_get m.links i)
 
--- each further link behind a point
-abbrev pub further_text : Graph → List ℕ → List ℕ
-further_text m path = flat_map (λ i. codes "." ++ decimal (number_of m i)) path
+-- a link behind others: a point and its number
+abbrev pub step_text : Graph → ℕ → List ℕ
+step_text m i = codes "." ++ decimal (link_number m i)
 
 -- the numbers of its links with points between them, or `-`
 abbrev pub path_text : Graph → List ℕ → List ℕ
 path_text m [] = codes "-"
-path_text m (i ∷ path) = decimal (number_of m i) ++ further_text m path
+path_text m (i ∷ path) = decimal (link_number m i) ++ flat_map (step_text m) path
 
 -- ---- the scalars of a path
 
-abbrev pub if_scalar : Option Domain → ℕ → List ℕ
-if_scalar None f = []
-if_scalar (Some t) f = f ∷ []
-
 module _ (domains : List Domain) (m : Graph) where
-  abbrev pub scalar_at : Node → List ℕ
-  scalar_at (At f) = if_scalar (type_of domains m f) f
-  scalar_at node = []
+  -- the node's field, if it is a scalar
+  abbrev pub scalar_at : Node → Option ℕ
+  scalar_at Start = None
+  scalar_at (At f) = if is_some (type_of domains m f) then Some f else None
+  scalar_at Null = None
 
-  abbrev pub scalar_behind : Option Arrow → List ℕ
-  scalar_behind None = []
+  abbrev pub scalar_behind : Option Arrow → Option ℕ
+  scalar_behind None = None
   scalar_behind (Some link) = scalar_at link.target
 
   -- in the order of the path
   abbrev pub scalars_of : List ℕ → List ℕ
-  scalars_of path = flat_map (λ i. scalar_behind (slice_get m.links i)) path
+  scalars_of path = filter_map (λ i. scalar_behind (slice_get m.links i)) path
+
+abbrev pub number_at : List ℕ → Option ℕ → Option ℕ
+number_at numbers None = None
+number_at numbers (Some i) = slice_get numbers i
 
 -- the number that stands where the field stands
 abbrev pub number_among : ℕ → List ℕ → List ℕ → Option ℕ
-number_among f (g ∷ fields) (n ∷ numbers) = if f == g then Some n else number_among f fields numbers
-number_among f fields numbers = None
+number_among f fields numbers = number_at numbers (position (λ g. g == f) fields)
 
 abbrev pub assigned_if : ℕ → Option ℕ → List Assigned
 assigned_if f None = []

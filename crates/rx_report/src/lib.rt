@@ -2,8 +2,15 @@
 #![tactic(auto)]
 
 mod fault;
+mod lines;
+mod path;
 mod reported;
 mod reporting;
+mod steps;
+mod subject;
+mod text;
+mod values;
+mod verdict;
 
 pub use fault::NoMemory;
 pub use reported::{Examined, Reported};
