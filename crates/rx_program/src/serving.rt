@@ -74,7 +74,8 @@ fn answer_message<I: Source>(
     ensures at_end { IfOk result (λ answer. IsOfWhole answer → IsAtEnd (I.left input.new)) }
     ensures source_fault { result ≡ Ok Answer.SourceFault → HasRisen (I.faults input.old) (I.faults input.new) }
 {
-    match examine(alloc, spec, message, ask.splits)? {
+    let examined = examine(alloc, spec, message, ask.splits)?;
+    match examined {
         Examined::Accepted => answer_input(alloc, ask, packages, spec, message, input),
         Examined::Rejected(reported) => Ok(Answer::Rejected(reported)),
     }

@@ -3,7 +3,7 @@ use Rattle.rx_program.proofs.AnswerLemmas.{answers_read}
 use Rattle.rx_program.proofs.serving.answer_input.Goals as goal
 
 pub read_input-requires : goal.read_input-requires
-read_input-requires g c = (let passes = c.requires.passes in c.reports_show_soundness.ensures c.args.ask.now.splits passes.report passes.is passes.passed)
+read_input-requires g c = (let passes = c.requires.passes in record { sound = c.reports_show_soundness.ensures c.args.ask.now.splits passes.report passes.is passes.passed })
 
 pub returns-clause-answers : goal.returns-clause-answers
 returns-clause-answers g c =
