@@ -3,6 +3,7 @@
 --   KeepsLimit           each path from the start, with such links of its end, stays within the limit
 --   MayBeChecked         the message is elaborated, and keeps the limit
 --   keeps_limit          the same, told by the list of all paths and links
+--   HasFewPaths          at most 4,096 paths lead to any node
 use Rattle.std.specs.Prelude.{◌≡◌, ◌<◌, ℕ, ◌+◌, Bool, true, false, not, List, [], ◌∷◌, ◌++◌, length, map, if◌then◌else◌}
 use Rattle.std.specs.List.{list_all}
 use Rattle.rx_types.specs.Domain.{Domain}
@@ -11,7 +12,7 @@ use Rattle.rx_graph.specs.declared.message.Node.TheVariants.{Start, At, Null}
 use Rattle.rx_graph.specs.declared.message.Field.{Field}
 use Rattle.rx_graph.specs.Graph.{Arrow, Graph}
 use Rattle.rx_graph.specs.Checks.{is_node}
-use Rattle.rx_graph.specs.Cycles.{IsLink, IsPath}
+use Rattle.rx_graph.specs.Cycles.{IsLink, IsPath, HasPathsUpTo}
 use Rattle.rx_graph.specs.Elaborated.{IsElaborated}
 use Rattle.rx_graph.specs.Onward.{onward}
 use Rattle.rx_forms.specs.Gathered.{passes_limit}
@@ -50,6 +51,10 @@ ones_and_pairs (i ∷ is) = (i ∷ []) ∷ (map (λ j. i ∷ j ∷ []) is ++ one
 abbrev pub outs : Graph → Node → List (List ℕ)
 outs m node = [] ∷ ones_and_pairs (numbers_from node 0 m.links)
 
+-- the path stays within the limit, with none, one or two of these links
+abbrev pub keeps_path : List Domain → Graph → List ℕ → List ℕ → Bool
+keeps_path domains m numbers path = list_all (λ out. not (passes_limit domains m path out)) ([] ∷ ones_and_pairs numbers)
+
 -- each path from the start to the node stays within the limit, with each choice of links
 abbrev pub keeps_limit_at : List Domain → Graph → Node → Bool
 keeps_limit_at domains m node = list_all (λ path. list_all (λ out. not (passes_limit domains m path out)) (outs m node)) (onward m.links (length m.links) node Start)
@@ -68,3 +73,7 @@ keeps_limit domains m = list_all (keeps_limit_at domains m) (every_node m)
 -- what the lists tell of is so
 abbrev pub LimitIsKept : List Domain → Graph → Type 0
 LimitIsKept domains m = keeps_limit domains m ≡ true → KeepsLimit domains m
+
+-- at most 4,096 paths lead to any node
+abbrev pub HasFewPaths : Graph → Type 0
+HasFewPaths m = (node : Node) → HasPathsUpTo m node 4096
