@@ -4,6 +4,7 @@ pub mod Asking
 pub mod Aspects
 pub mod Building
 pub mod Carrying
+pub mod Chosen
 pub mod Conditions
 pub mod Extension
 pub mod Facts

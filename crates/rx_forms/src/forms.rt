@@ -53,9 +53,9 @@ pub fn finish(builder: Builder) -> Forms
     }
 }
 
-// Gathers the links of a path into fields, and the condition of its link to null.
+/// Gathers the links of a path into fields, and the condition of its link to null.
 #[tactic(none)]
-fn gather_path(
+pub fn gather_path(
     alloc: Global,
     path: &[u16],
     message: &Message,

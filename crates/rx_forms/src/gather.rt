@@ -26,8 +26,8 @@ fn scalars_at(link: &Link, message: &Message, scalars: &[Scalar]) -> usize
     }
 }
 
-// The link at an index, if there is one.
-fn link_at(message: &Message, index: u16) -> Option<&Link>
+/// The link at an index, if there is one.
+pub fn link_at(message: &Message, index: u16) -> Option<&Link>
     ensures { option_copied result ≡ slice_get message.now.links.items index }
 {
     at(message.links.as_slice(), index as usize)

@@ -4,6 +4,7 @@
 mod arithmetic;
 mod aspect;
 mod builder;
+mod choices;
 mod condition;
 mod division;
 mod entry;

@@ -12,7 +12,10 @@ ghost use Rattle.rx_graph.specs.Onward.{onward};
 ghost use Rattle.rx_forms.specs.Code.{domains_in};
 ghost use Rattle.rx_forms.specs.PathLimit.{numbers_from, keeps_path, keeps_limit_at, fields_from, keeps_limit, LimitIsKept, HasFewPaths};
 
-use crate::fault::NoMemory;
+use crate::choices::{keeps_choices, reach};
+use crate::fault::{FormFault, NoMemory};
+use crate::gather::scalars_along;
+use crate::limit::VARIABLES;
 use rx_graph::{Message, Node, Path, PathFault, Scalar, Spec, paths_to};
 use std::alloc::Global;
 
@@ -35,11 +38,7 @@ pub fn keeps_limit(alloc: Global, message: &Message, scalars: &[Scalar]) -> Resu
 }
 
 // Whether the paths to fields do.
-fn keeps_at_fields(
-    alloc: Global,
-    message: &Message,
-    scalars: &[Scalar],
-) -> Result<bool, NoMemory>
+fn keeps_at_fields(alloc: Global, message: &Message, scalars: &[Scalar]) -> Result<bool, NoMemory>
     requires elaborated { IsElaborated (domains_in scalars.now) (graph_of message.now) }
     requires boolean { (d : Domain) → slice_get (domains_in scalars.now) 0 ≡ Some d → d ≡ boolean }
     ensures { IfOk result (λ kept. kept ≡ list_all (keeps_limit_at (domains_in scalars.now) (graph_of message.now)) (fields_from 0 message.now.fields.items)) }
@@ -149,7 +148,18 @@ fn keeps_path(
     requires boolean { (d : Domain) → slice_get (domains_in scalars.now) 0 ≡ Some d → d ≡ boolean }
     ensures { IfOk result (λ kept. kept ≡ keeps_path (domains_in scalars.now) (graph_of message.now) numbers.now path.now) }
 {
-    Err(NoMemory)
+    let count = scalars_along(path, message, scalars);
+    if count >= VARIABLES {
+        return Ok(false);
+    }
+    match reach(alloc, count, path, message, scalars) {
+        Ok(builder) => {
+            let fields = builder.fields.as_slice();
+            keeps_choices(alloc, numbers, message, scalars, fields, builder.work.next)
+        }
+        Err(FormFault::PathLimit) => Ok(false),
+        Err(FormFault::NoMemory) => Err(NoMemory),
+    }
 }
 
 /// Where that is so, every path of the message stays within the limit.

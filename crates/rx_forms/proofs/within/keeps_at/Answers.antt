@@ -1,11 +1,7 @@
-use Rattle.std.proofs.Common.{◌≡◌, ◌≤◌, ◌^◌, ℕ, List, length, sym, ap, ◌∙◌, refl, arith}
-use Rattle.std.specs.List.{list_all}
-use Rattle.rx_graph.specs.declared.message.Node.TheVariants.{Start}
-use Rattle.rx_graph.specs.Graph.{arrows, graph_of}
-use Rattle.rx_graph.specs.Onward.{onward}
+use Rattle.std.proofs.Common.{◌≡◌, ◌≤◌, ◌^◌, ℕ, arith}
+use Rattle.rx_graph.specs.Graph.{graph_of}
 use Rattle.rx_graph.proofs.Ways.{length-arrows}
 use Rattle.rx_forms.specs.Code.{domains_in}
-use Rattle.rx_forms.specs.PathLimit.{numbers_from, keeps_path, keeps_limit_at}
 use Rattle.rx_forms.proofs.Few.{few_paths}
 use Rattle.rx_forms.proofs.within.keeps_at.Goals as goal
 

@@ -1,4 +1,4 @@
-use Rattle.std.proofs.Common.{refl, length}
+use Rattle.std.proofs.Common.{length}
 use Rattle.rx_graph.specs.declared.message.Node.TheVariants.{Start}
 use Rattle.rx_graph.specs.Graph.{arrows, graph_of}
 use Rattle.rx_graph.specs.Onward.{onward}

@@ -1,0 +1,58 @@
+use Rattle.std.proofs.Common.{◌≡◌, sym, ap, ◌∙◌, ℕ, ◌+◌, ◌≤◌, ◌<◌, arith, false, ◌&&◌}
+use Rattle.std.proofs.lemmas.Result.{err_from_is_err_and, IfOk-from_err}
+use Rattle.rx_graph.specs.Graph.{graph_of}
+use Rattle.rx_forms.specs.Gathered.{into_fields}
+use Rattle.rx_forms.specs.Steps.{links_on}
+use Rattle.rx_forms.specs.Code.{domains_in}
+use Rattle.rx_forms.specs.Fronts.{Front, first_front, after_links, links_within, after_ends, ends_within, ends_of}
+use Rattle.rx_forms.proofs.Kept.{on_both}
+use Rattle.rx_forms.proofs.choices.reach.Goals as goal
+
+few_ends : (s n t : ℕ) → s ≡ 1 → n ≡ t → n < 190 → s + t ≤ 190
+few_ends s n t e h k = omega (arith, e, h, k)
+
+room_first : (d n : ℕ) → d ≡ 1 + n → n < 190 → d ≤ 190
+room_first d n e k = omega (arith, e, k)
+
+pub start-builder-requires : goal.start-builder-requires
+start-builder-requires c = record { few = c.requires.few }
+
+pub gather_path-requires : goal.gather_path-requires
+gather_path-requires c =
+    let e = c.start-builder.ensures in
+    record {
+      formable = c.requires.formable;
+      narrow = c.requires.narrow;
+      few = few_ends c.start-builder.result.scalar c.args.count _ (ap (λ (x : Front). x.scalar) e) c.requires.count c.requires.few;
+      room = room_first c.start-builder.result.work.next c.args.count (ap (λ (x : Front). x.division) e) c.requires.few;
+    }
+
+pub returns-in_err-gather_path : goal.returns-in_err-gather_path
+returns-in_err-gather_path c =
+    let domains = domains_in c.args.scalars.now in
+    let m = graph_of c.args.message.now in
+    let into = into_fields (links_on domains m c.args.path.now) in
+    let ends = ends_of false (links_on domains m c.args.path.now) in
+    let e = c.start-builder.ensures ∙ ap first_front c.requires.count in
+    let p = err_from_is_err_and c.from_residual.result c.from_residual.ensures.1 in
+    record {
+      front = IfOk-from_err c.from_residual.result _ c.from_residual.ensures.0;
+      within = IfOk-from_err c.from_residual.result _ c.from_residual.ensures.0;
+      room = IfOk-from_err c.from_residual.result _ c.from_residual.ensures.0;
+      limit = rw (p.1, p.2) (λ x. sym (ap (λ (y : Front). links_within domains m y into && ends_within domains m (after_links domains m y into) ends) e) ∙ c.in_err-gather_path.ensures.limit x);
+    }
+
+pub returns : goal.returns
+returns c =
+    let domains = domains_in c.args.scalars.now in
+    let m = graph_of c.args.message.now in
+    let into = into_fields (links_on domains m c.args.path.now) in
+    let ends = ends_of false (links_on domains m c.args.path.now) in
+    let e = c.start-builder.ensures ∙ ap first_front c.requires.count in
+    let g = c.in_ok-gather_path.ensures in
+    record {
+      front = g.gone ∙ ap (λ (y : Front). after_ends domains m (after_links domains m y into) ends) e;
+      within = sym (ap (λ (y : Front). links_within domains m y into && ends_within domains m (after_links domains m y into) ends) e) ∙ on_both _ _ g.within g.ends;
+      room = g.room;
+      limit = tt;
+    }
