@@ -1,5 +1,5 @@
 -- Lists whose items stand one after the other, and tables of names.
-use Rattle.std.proofs.Common.{◌≡◌, ◌∙◌, ap, sym, refl, subst, ℕ, zero, suc, ◌+◌, ◌<◌, Bool, true, false, List, [], ◌∷◌, ◌++◌, length, get_or, Option, Some, Result, Ok, Err, arith}
+use Rattle.std.proofs.Common.{◌≡◌, ◌∙◌, ap, sym, refl, subst, ℕ, zero, suc, ◌+◌, ◌<◌, Bool, true, false, List, [], ◌∷◌, ◌++◌, length, Option, Some, Result, Ok, Err, arith}
 use Rattle.std.specs.Prelude.{slice_get, find, if◌then◌else◌}
 use Rattle.std.specs.List.{AllByRecursion}
 use Rattle.std.specs.Option.{option_map}
@@ -27,11 +27,6 @@ pub all_at : {A : Type 0} (P : A → Type 0) (xs : List A) (k : ℕ) (x : A) →
 all_at P [] k x h e = absurd (none-some x e)
 all_at P (z ∷ xs) zero x h e = subst (λ y. P y) (same_Some z x e) h.0
 all_at P (z ∷ xs) (suc k) x h e = all_at P xs k x h.1 e
-
-pub all_here : {A : Type 0} (P : A → Type 0) (xs : List A) (k : ℕ) (x : A) → AllByRecursion P xs → k < length xs → x ≡ get_or xs k x → P x
-all_here P [] k x h l e = absurd (omega arith)
-all_here P (z ∷ xs) zero x h l e = subst (λ y. P y) (sym e) h.0
-all_here P (z ∷ xs) (suc k) x h l e = all_here P xs k x h.1 (omega arith) e
 
 -- ---- items that mean something
 

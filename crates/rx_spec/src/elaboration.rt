@@ -141,7 +141,7 @@ fn typed(alloc: Global, packages: &[PackageTree]) -> Result<Spec, SpecFault>
 
 /// The scalar types and messages of packages, which were fetched under the names `asked`, or the refusal that comes
 /// first: names of all packages (8, 9), then their scalar types (10 to 14, 20), then their messages (8, 10, 12 to 14, 16
-/// to 19, 21).
+/// to 19, 21). The last that is asked of a message is whether its paths keep the path limit (21).
 pub fn elaborate(alloc: Global, asked: &[Name], packages: &[PackageTree]) -> Result<Spec, SpecFault>
     ensures meaning { IfOk result (λ s. elaborated asked.now packages.now ≡ Ok (spec_of s)) }
     ensures refusal { IfErr result (λ e. TellsOf e (elaborated asked.now packages.now)) }
