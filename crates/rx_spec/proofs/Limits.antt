@@ -21,11 +21,11 @@ named : (xs : List code.Scalar) → domains_in xs ≡ map (λ x. x.domain) (map 
 named [] = refl
 named (x ∷ xs) = ap (λ (ds : List Domain). domain_of x.kind ∷ ds) (named xs)
 
-pub domains_same : (t : Types) → domains_in t.scalars.items ≡ domains_known (types_of t)
-domains_same t = named t.scalars.items
+pub domains_same : (t : Types) (xs : List code.Scalar) → xs ≡ t.scalars.items → domains_in xs ≡ domains_known (types_of t)
+domains_same t xs e = ap (λ (ys : List code.Scalar). domains_in ys) e ∙ named t.scalars.items
 
-pub boolean_first : (t : Types) (d : Domain) → HasBoolean (types_of t) → slice_get (domains_in t.scalars.items) 0 ≡ Some d → d ≡ boolean
-boolean_first t d b h = same_Some d boolean (sym h ∙ ap (λ (ds : List Domain). slice_get ds 0) (domains_same t) ∙ b)
+pub boolean_first : (t : Types) (xs : List code.Scalar) (d : Domain) → xs ≡ t.scalars.items → HasBoolean (types_of t) → slice_get (domains_in xs) 0 ≡ Some d → d ≡ boolean
+boolean_first t xs d e b h = same_Some d boolean (sym h ∙ ap (λ (ds : List Domain). slice_get ds 0) (domains_same t xs e) ∙ b)
 
 -- ---- the limit, where it is known whether the message keeps it
 
