@@ -1,7 +1,7 @@
 -- The path limit, as the code asks for it.
 --   domains_same                  the scalar types of the code are those that are known
 --   limit_keeps, limit_passes     what is answered where the message keeps the limit, and where it passes it
-use Rattle.std.proofs.Common.{◌≡◌, ◌∙◌, ap, sym, refl, ℕ, Bool, true, false, List, [], ◌∷◌, map, Some, Ok, Err}
+use Rattle.std.proofs.Common.{◌≡◌, ◌∙◌, ap, sym, refl, Bool, true, false, List, [], ◌∷◌, map, Some, Ok, Err}
 use Rattle.std.specs.Prelude.{slice_get, if◌then◌else◌}
 use Rattle.std.proofs.lemmas.Option.{same_Some}
 use Rattle.rx_syntax.specs.declared.tree.Named.{Named}
