@@ -1,6 +1,6 @@
 -- The names of a message's fields are different, since each was new where it stood.
 --   field_names_apart     so are those of the fields of the message
-use Rattle.std.proofs.Common.{◌≡◌, ◌∙◌, ap, sym, subst, ℕ, ◌+◌, List, [], ◌∷◌, map, Some, None, Ok}
+use Rattle.std.proofs.Common.{◌≡◌, ◌∙◌, ap, sym, subst, ℕ, ◌+◌, List, [], ◌∷◌, map, Some, Ok}
 use Rattle.std.specs.Prelude.{slice_get}
 use Rattle.rx_syntax.specs.declared.tree.ThenTree.{ThenTree}
 use Rattle.rx_syntax.specs.declared.tree.FieldTree.{FieldTree}

@@ -39,7 +39,7 @@ use Rattle.rx_judge.specs.declared.names.Thing.TheVariants as thing
 use Rattle.rx_judge.proofs.Lows.{both_true}
 use Rattle.rx_judge.proofs.Meanings.{bind_ok, ok_same, if_ok, err_differs}
 use Rattle.rx_judge.proofs.Sound.{sound}
-use Rattle.rx_elab.specs.Firsts.{field_of_thing, field_of_name, is_of_numbers, is_step_by, is_step, is_form, name_of_last, is_behind, has_first_form, field_if_any, laid, laid_if_any, first_from, first_in}
+use Rattle.rx_elab.specs.Firsts.{field_of_thing, is_of_numbers, is_step_by, is_step, is_form, name_of_last, is_behind, has_first_form, field_if_any, laid, laid_if_any, first_from, first_in}
 use Rattle.rx_elab.specs.Parts.{Parts, no_parts, root_name, number_judged, truth_judged, is_mixed_target, first_stands, first_judged, size_judged, with_aspect, with_condition, parts_judged}
 use Rattle.rx_elab.specs.Through.{through}
 use Rattle.rx_elab.specs.declared.layings.Laying.{Laying}

@@ -9,7 +9,7 @@ use Rattle.std.specs.List.{AllByRecursion}
 use Rattle.std.specs.Option.{option_or}
 use Rattle.std.proofs.lemmas.Bool.{ltb-true}
 use Rattle.std.proofs.lemmas.Bool.Decides.{Decides-eqb}
-use Rattle.std.proofs.lemmas.Option.{none-some, same_Some, slice_get_within}
+use Rattle.std.proofs.lemmas.Option.{same_Some, slice_get_within}
 use Rattle.rx_syntax.specs.declared.tree.Named.{Named}
 use Rattle.rx_syntax.specs.declared.tree.FieldTree.{FieldTree}
 use Rattle.rx_syntax.specs.declared.tree.HeaderTree.{HeaderTree}

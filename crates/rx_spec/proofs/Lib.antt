@@ -9,6 +9,7 @@ pub mod Forms
 pub mod Holding
 pub mod Items
 pub mod Known
+pub mod Limits
 pub mod Lying
 pub mod Made
 pub mod Nothing

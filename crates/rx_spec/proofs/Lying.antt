@@ -2,11 +2,11 @@
 --   target_known held t    the target as the names of the message know it
 --   way_meant              what stands of the First of a link
 --   overlay_below          the overlay of a field is a field of the message
-use Rattle.std.proofs.Common.{◌≡◌, ◌∙◌, ap, sym, refl, subst, ℕ, ◌+◌, ◌<◌, Bool, true, false, List, [], ◌∷◌, length, Option, Some, None, Ok, arith}
+use Rattle.std.proofs.Common.{◌≡◌, ◌∙◌, ap, sym, refl, subst, ℕ, ◌<◌, Bool, true, List, [], length, Option, Some, None, Ok, arith}
 use Rattle.std.specs.Prelude.{◌==◌, slice_get}
 use Rattle.std.specs.Option.{option_or}
 use Rattle.std.proofs.lemmas.Bool.Decides.{Decides-eqb}
-use Rattle.std.proofs.lemmas.Option.{none-some, same_Some}
+use Rattle.std.proofs.lemmas.Option.{none-some}
 use Rattle.rx_syntax.specs.declared.token.Place.{Place}
 use Rattle.rx_syntax.specs.declared.tree.ExprTree.{ExprTree}
 use Rattle.rx_syntax.specs.declared.tree.ThenTree.{ThenTree}
@@ -27,7 +27,7 @@ use Rattle.rx_links.specs.declared.links.Stop.{Stop}
 use Rattle.rx_links.specs.declared.links.Stop.TheVariants as stop
 use Rattle.rx_links.specs.declared.links.Way.{Way}
 use Rattle.rx_elab.specs.Firsts.{clause_first, field_first, first_in, target_first, way_first, laid_if_any, laying_of, layings_of, is_at, overlay_in}
-use Rattle.rx_elab.specs.Parts.{Parts, FieldParts, MessageParts, target_in, parts_judged, then_parts, field_parts}
+use Rattle.rx_elab.specs.Parts.{Parts, FieldParts, MessageParts, target_in, then_parts, field_parts}
 use Rattle.rx_elab.specs.declared.fields.Held.{Held}
 use Rattle.rx_elab.specs.declared.layings.Laying.{Laying}
 use Rattle.rx_spec.specs.Arrows.{own_in, own_parts, thens_in, thens_of, parts_or_none, clause_in, clause_parts}

@@ -24,7 +24,7 @@ use Rattle.rx_elab.specs.declared.fields.Held.{Held}
 use Rattle.rx_elab.specs.declared.layings.Laying.{Laying}
 use Rattle.rx_elab.specs.declared.types.KnownType.{KnownType}
 use Rattle.rx_spec.specs.Arrows.{arrow_of_way}
-use Rattle.rx_spec.specs.Messages.{field_meant, scope_in, links_meant, sized_links, Body, body_shaped, body_of, graph_named, message_of}
+use Rattle.rx_spec.specs.Messages.{field_meant, scope_in, links_meant, sized_links, Body, body_shaped, body_of, graph_named, message_made}
 use Rattle.rx_spec.specs.Shape.{Shape, shape_of, ways_of, ways_stand, paths_stand, few_stand}
 use Rattle.rx_spec.specs.Sizes.{fields_sized}
 
@@ -92,7 +92,7 @@ in_body t h name m p w b e =
     subst (λ (c : Body). IsMade t h name m (record { «package» = p; name = w; fields = c.fields; links = c.links; low_order = m.low_order })) {x = record { fields = y.0; links = z.0 }} (ok_same (record { fields = y.0; links = z.0 }) b z.2) have
 
 -- what each message is made of
-pub made : (t : Types) (h : HeaderTree) (name : Named) (m : MessageTree) (g : Graph) → message_of t h name m ≡ Ok g → IsMade t h name m g
+pub made : (t : Types) (h : HeaderTree) (name : Named) (m : MessageTree) (g : Graph) → message_made t h name m ≡ Ok g → IsMade t h name m g
 made t h name m g e =
     let a = bind_ok (body_of t h name m) (λ (b : Body). graph_named h name b m.low_order) g e in
     let b = a.0 in

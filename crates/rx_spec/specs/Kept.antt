@@ -3,13 +3,11 @@
 --   body_kept b             fields and links
 --   paths_onward m          the links of the paths from the start to null
 --   paths_and_few, counted_ways    the last steps of ways_stand
---   null_meant                     a step of the meaning of a null message
 --   specified, typed               the last steps of elaborated
 --   fault_in i e                       the fault of what stands in package i
-use Rattle.std.specs.Prelude.{ℕ, false, List, [], length, Option, Some, None, Result, Ok}
+use Rattle.std.specs.Prelude.{ℕ, List, [], length, Option, Some, None, Result, Ok}
 use Rattle.rx_syntax.specs.declared.tree.Named.{Named}
 use Rattle.rx_syntax.specs.declared.tree.MessageTree.{MessageTree}
-use Rattle.rx_syntax.specs.declared.tree.HeaderTree.{HeaderTree}
 use Rattle.rx_syntax.specs.declared.tree.PackageTree.{PackageTree}
 use Rattle.rx_graph.specs.declared.message.Node.TheVariants.{Start, Null}
 use Rattle.rx_graph.specs.Graph.{Graph, Specified, arrows}
@@ -23,7 +21,7 @@ use Rattle.rx_elab.specs.Parts.{Parts, no_parts, parts_of}
 use Rattle.rx_elab.specs.Types.{Types, built_in_types}
 use Rattle.rx_elab.specs.declared.parts.Parts as code
 use Rattle.rx_spec.specs.Elaboration.{package_types_in, package_messages_in, through_from}
-use Rattle.rx_spec.specs.Messages.{Body, null_body, graph_named}
+use Rattle.rx_spec.specs.Messages.{Body}
 use Rattle.rx_spec.specs.Shape.{paths_stand, few_stand}
 use Rattle.rx_spec.specs.declared.body.Body as code_body
 use Rattle.rx_spec.specs.declared.fault.Told.{Told}
@@ -54,10 +52,6 @@ abbrev pub counted_ways : Named → MessageTree → List Way → Meaning (Unit {
 counted_ways name m ways = do
   v ← counts_stand name (length m.fields.items) (length ways)
   paths_and_few name m ways
-
--- a message without fields
-abbrev pub null_meant : HeaderTree → Named → Meaning Graph
-null_meant h name = graph_named h name (null_body name) false
 
 -- the last step of elaborated, where t has the types
 abbrev pub specified : List PackageTree → Types → Result Specified Told

@@ -2,6 +2,8 @@ pub mod Arrows
 pub mod Elaboration
 pub mod Kept
 pub mod Laws
+pub mod Limit
 pub mod Messages
+pub mod Ready
 pub mod Shape
 pub mod Sizes

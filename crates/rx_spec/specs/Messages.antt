@@ -1,6 +1,7 @@
 -- The meaning of messages.
 --   known_fields hs fs        the fields by their names, for the expressions of the message
---   message_of t h name m     message m of the package with header h
+--   message_made t h name m   message m of the package with header h, within the path limit or not
+--   message_of t h name m     the same message, which is within the path limit
 --   package_messages t gs p   the messages of a package, behind those before it
 use Rattle.std.specs.Prelude.{ℕ, ◌+◌, Bool, true, false, List, [], ◌∷◌, ◌++◌, Option, Some, None, Ok, slice_get, map}
 use Rattle.rx_syntax.specs.declared.tree.Named.{Named}
@@ -35,6 +36,7 @@ use Rattle.rx_elab.specs.declared.fields.Held.{Held}
 use Rattle.rx_elab.specs.declared.fields.Held.TheVariants as holds
 use Rattle.rx_elab.specs.declared.layings.Laying.{Laying}
 use Rattle.rx_spec.specs.Arrows.{arrow_of_way}
+use Rattle.rx_spec.specs.Limit.{within_limit}
 use Rattle.rx_spec.specs.Shape.{Shape, shape_of}
 use Rattle.rx_spec.specs.Sizes.{fields_sized}
 
@@ -105,14 +107,24 @@ graph_named h name b low = do
   w ← spelled name
   Ok (record { «package» = p; name = w; fields = b.fields; links = b.links; low_order = low })
 
-abbrev pub message_of : Types → HeaderTree → Named → MessageTree → Meaning Graph
-message_of t h name m = do
+-- a message, be it within the path limit or not
+abbrev pub message_made : Types → HeaderTree → Named → MessageTree → Meaning Graph
+message_made t h name m = do
   b ← body_of t h name m
   graph_named h name b m.low_order
+
+abbrev pub message_of : Types → HeaderTree → Named → MessageTree → Meaning Graph
+message_of t h name m = message_made t h name m >>= within_limit t name
 
 -- no fields, and one link from the start to null
 abbrev pub null_body : Named → Body
 null_body name = record { fields = []; links = record { source = node.Start; target = node.Null; condition = Truth true; first = None; size = None; place = name.place } ∷ [] }
+
+abbrev pub null_made : HeaderTree → Named → Meaning Graph
+null_made h name = graph_named h name (null_body name) false
+
+abbrev pub null_message : Types → HeaderTree → Named → Meaning Graph
+null_message t h name = null_made h name >>= within_limit t name
 
 -- ---- packages
 
@@ -121,7 +133,7 @@ with_message gs m = m >>= (λ g. Ok (gs ++ g ∷ []))
 
 abbrev pub definition_meant : Types → HeaderTree → List Graph → Named → DefTree → Meaning (List Graph)
 definition_meant t h gs name (def.Message m) = with_message gs (message_of t h name m)
-definition_meant t h gs name def.NullMessage = with_message gs (graph_named h name (null_body name) false)
+definition_meant t h gs name def.NullMessage = with_message gs (null_message t h name)
 definition_meant t h gs name other = Ok gs
 
 abbrev pub kind_meant : Types → HeaderTree → List Graph → DeclKind → Meaning (List Graph)

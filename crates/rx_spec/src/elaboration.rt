@@ -7,6 +7,8 @@ ghost use Rattle.rx_elab.specs.Types.{types_of, built_in_types};
 ghost use Rattle.rx_spec.specs.Elaboration.{package_stands_in, package_types_in, package_messages_in, through_from, elaborated, TellsOf};
 ghost use Rattle.rx_spec.specs.Kept.{specified, typed};
 ghost use Rattle.rx_spec.specs.Laws.{IsSoundSpec};
+ghost use Rattle.rx_spec.specs.Limit.{HasBoolean};
+ghost use Rattle.rx_spec.specs.Ready.{PackageMakes, AreReady, AreReadyOnceTyped};
 
 use crate::fault::{SpecFault, fault_in};
 use crate::packages::package_messages;
@@ -86,6 +88,8 @@ fn add_messages(
     index: usize,
     package: &PackageTree,
 ) -> Result<(), SpecFault>
+    requires boolean { HasBoolean (types_of types.now) }
+    requires elaborated { PackageMakes (types_of types.now) «package».now }
     ensures meaning { IfOk result (λ x. package_messages_in (types_of types.now) index (map graph_of messages.old.items) «package».now ≡ Ok (map graph_of messages.new.items)) }
     ensures refusal { IfErr result (λ e. TellsOf e (package_messages_in (types_of types.now) index (map graph_of messages.old.items) «package».now)) }
 {
@@ -100,6 +104,7 @@ fn messages_of(
     types: &Types,
     packages: &[PackageTree],
 ) -> Result<Vec<Message>, SpecFault>
+    requires ready { AreReady (types_of types.now) packages.now }
     ensures meaning { IfOk result (λ ms. through_from (package_messages_in (types_of types.now)) 0 [] packages.now ≡ Ok (map graph_of ms.items)) }
     ensures refusal { IfErr result (λ e. TellsOf e (through_from (package_messages_in (types_of types.now)) 0 [] packages.now)) }
 {
@@ -113,6 +118,7 @@ fn messages_of(
 // ---- the whole
 
 fn specified(alloc: Global, packages: &[PackageTree], types: Types) -> Result<Spec, SpecFault>
+    requires ready { AreReady (types_of types) packages.now }
     ensures meaning { IfOk result (λ s. specified packages.now (types_of types) ≡ Ok (spec_of s)) }
     ensures refusal { IfErr result (λ e. TellsOf e (specified packages.now (types_of types))) }
 {
@@ -125,6 +131,7 @@ fn specified(alloc: Global, packages: &[PackageTree], types: Types) -> Result<Sp
 }
 
 fn typed(alloc: Global, packages: &[PackageTree]) -> Result<Spec, SpecFault>
+    requires ready { AreReadyOnceTyped packages.now }
     ensures meaning { IfOk result (λ s. typed packages.now ≡ Ok (spec_of s)) }
     ensures refusal { IfErr result (λ e. TellsOf e (typed packages.now)) }
 {
@@ -134,7 +141,7 @@ fn typed(alloc: Global, packages: &[PackageTree]) -> Result<Spec, SpecFault>
 
 /// The scalar types and messages of packages, which were fetched under the names `asked`, or the refusal that comes
 /// first: names of all packages (8, 9), then their scalar types (10 to 14, 20), then their messages (8, 10, 12 to 14, 16
-/// to 19, 21).
+/// to 19, 21). The last that is asked of a message is whether its paths keep the path limit (21).
 pub fn elaborate(alloc: Global, asked: &[Name], packages: &[PackageTree]) -> Result<Spec, SpecFault>
     ensures meaning { IfOk result (λ s. elaborated asked.now packages.now ≡ Ok (spec_of s)) }
     ensures refusal { IfErr result (λ e. TellsOf e (elaborated asked.now packages.now)) }

@@ -7,6 +7,7 @@ mod counting;
 mod elaboration;
 mod fault;
 mod fields;
+mod limit;
 mod messages;
 mod operators;
 mod packages;

@@ -7,12 +7,15 @@ ghost use Rattle.rx_judge.specs.Names.{scope_of};
 ghost use Rattle.rx_links.specs.Cycle.{AreWithin};
 ghost use Rattle.rx_elab.specs.Types.{types_of};
 ghost use Rattle.rx_spec.specs.Kept.{body_kept};
-ghost use Rattle.rx_spec.specs.Messages.{scope_in, links_meant, sized_links, body_laid, body_shaped, body_of, graph_named, message_of, null_body};
+ghost use Rattle.rx_spec.specs.Limit.{HasBoolean};
+ghost use Rattle.rx_spec.specs.Messages.{scope_in, links_meant, sized_links, body_laid, body_shaped, body_of, graph_named, message_made, message_of, null_body, null_made, null_message};
+ghost use Rattle.rx_spec.specs.Ready.{MessageMakes};
 ghost use Rattle.rx_spec.specs.Shape.{shape_of_code};
 
 use crate::arrows::links_made;
 use crate::body::Body;
 use crate::fields::{fields_meant, known_fields};
+use crate::limit::within_limit;
 use crate::shape::{Shape, shape_of};
 use crate::sizes::fields_sized;
 use rx_elab::{Laying, Types, layings_of, message_parts};
@@ -142,7 +145,7 @@ fn body_of(
     body_within(alloc, types, header, name, message, &shape)
 }
 
-pub(crate) fn graph_named(
+fn graph_named(
     alloc: Global,
     header: &HeaderTree,
     name: &Named,
@@ -163,8 +166,22 @@ pub(crate) fn graph_named(
     })
 }
 
+fn message_made(
+    alloc: Global,
+    types: &Types,
+    header: &HeaderTree,
+    name: &Named,
+    message: &MessageTree,
+) -> Result<Message, Fault>
+    ensures meaning { IfOk result (λ m. message_made (types_of types.now) header.now name.now message.now ≡ Ok (graph_of m)) }
+    ensures refusal { IfErr result (λ e. Tells e (message_made (types_of types.now) header.now name.now message.now)) }
+{
+    let body = body_of(alloc, types, header, name, message)?;
+    graph_named(alloc, header, name, body, message.low_order)
+}
+
 /// What a message means: the refusals of its shape, then 8 at a field that has no name, then those of its expressions
-/// and Firsts, then 14 and 19 at its fields.
+/// and Firsts, then 14 and 19 at its fields, then 21 at its name if its paths pass the path limit.
 pub(crate) fn message_of(
     alloc: Global,
     types: &Types,
@@ -172,15 +189,17 @@ pub(crate) fn message_of(
     name: &Named,
     message: &MessageTree,
 ) -> Result<Message, Fault>
+    requires boolean { HasBoolean (types_of types.now) }
+    requires elaborated { MessageMakes (types_of types.now) header.now name.now message.now }
     ensures meaning { IfOk result (λ m. message_of (types_of types.now) header.now name.now message.now ≡ Ok (graph_of m)) }
     ensures refusal { IfErr result (λ e. Tells e (message_of (types_of types.now) header.now name.now message.now)) }
 {
-    let body = body_of(alloc, types, header, name, message)?;
-    graph_named(alloc, header, name, body, message.low_order)
+    let made = message_made(alloc, types, header, name, message)?;
+    within_limit(alloc, types, name, made)
 }
 
-/// No fields, and one link from the start to null.
-pub(crate) fn null_body(alloc: Global, name: &Named) -> Result<Body, NoMemory>
+// No fields, and one link from the start to null.
+fn null_body(alloc: Global, name: &Named) -> Result<Body, NoMemory>
     ensures { IfOk result (λ b. body_kept b ≡ null_body name.now) }
 {
     let link = Link {
@@ -197,4 +216,28 @@ pub(crate) fn null_body(alloc: Global, name: &Named) -> Result<Body, NoMemory>
         fields: Vec::new(alloc),
         links,
     })
+}
+
+fn null_made(alloc: Global, header: &HeaderTree, name: &Named) -> Result<Message, Fault>
+    ensures meaning { IfOk result (λ m. null_made header.now name.now ≡ Ok (graph_of m)) }
+    ensures refusal { IfErr result (λ e. Tells e (null_made header.now name.now)) }
+{
+    let body = null_body(alloc, name)?;
+    let message = graph_named(alloc, header, name, body, false)?;
+    Ok(message)
+}
+
+/// What a null message means: no fields, and one link from the start to null.
+pub(crate) fn null_message(
+    alloc: Global,
+    types: &Types,
+    header: &HeaderTree,
+    name: &Named,
+) -> Result<Message, Fault>
+    requires boolean { HasBoolean (types_of types.now) }
+    ensures meaning { IfOk result (λ m. null_message (types_of types.now) header.now name.now ≡ Ok (graph_of m)) }
+    ensures refusal { IfErr result (λ e. Tells e (null_message (types_of types.now) header.now name.now)) }
+{
+    let made = null_made(alloc, header, name)?;
+    within_limit(alloc, types, name, made)
 }

@@ -5,10 +5,11 @@ ghost use Rattle.rx_graph.specs.Graph.{graph_of};
 ghost use Rattle.rx_judge.specs.Meaning.{Tells};
 ghost use Rattle.rx_elab.specs.Through.{through};
 ghost use Rattle.rx_elab.specs.Types.{types_of};
-ghost use Rattle.rx_spec.specs.Kept.{null_meant};
-ghost use Rattle.rx_spec.specs.Messages.{message_of, with_message, definition_meant, declaration_meant, package_messages};
+ghost use Rattle.rx_spec.specs.Limit.{HasBoolean};
+ghost use Rattle.rx_spec.specs.Messages.{message_of, null_message, with_message, definition_meant, declaration_meant, package_messages};
+ghost use Rattle.rx_spec.specs.Ready.{MessageMakes, MakesElaborated, DeclarationMakes, PackageMakes};
 
-use crate::messages::{graph_named, message_of, null_body};
+use crate::messages::{message_of, null_message};
 use rx_elab::Types;
 use rx_graph::Message;
 use rx_judge::{Fault, NoMemory};
@@ -30,6 +31,8 @@ fn add_message(
     name: &Named,
     tree: &MessageTree,
 ) -> Result<(), Fault>
+    requires boolean { HasBoolean (types_of types.now) }
+    requires elaborated { MessageMakes (types_of types.now) header.now name.now tree.now }
     ensures meaning { IfOk result (λ x. with_message (map graph_of messages.old.items) (message_of (types_of types.now) header.now name.now tree.now) ≡ Ok (map graph_of messages.new.items)) }
     ensures refusal { IfErr result (λ e. Tells e (with_message (map graph_of messages.old.items) (message_of (types_of types.now) header.now name.now tree.now))) }
 {
@@ -38,25 +41,18 @@ fn add_message(
     Ok(())
 }
 
-fn null_meant(alloc: Global, header: &HeaderTree, name: &Named) -> Result<Message, Fault>
-    ensures meaning { IfOk result (λ m. null_meant header.now name.now ≡ Ok (graph_of m)) }
-    ensures refusal { IfErr result (λ e. Tells e (null_meant header.now name.now)) }
-{
-    let body = null_body(alloc, name)?;
-    let message = graph_named(alloc, header, name, body, false)?;
-    Ok(message)
-}
-
 fn add_null(
     alloc: Global,
+    types: &Types,
     header: &HeaderTree,
     messages: &mut Vec<Message>,
     name: &Named,
 ) -> Result<(), Fault>
-    ensures meaning { IfOk result (λ x. with_message (map graph_of messages.old.items) (null_meant header.now name.now) ≡ Ok (map graph_of messages.new.items)) }
-    ensures refusal { IfErr result (λ e. Tells e (with_message (map graph_of messages.old.items) (null_meant header.now name.now))) }
+    requires boolean { HasBoolean (types_of types.now) }
+    ensures meaning { IfOk result (λ x. with_message (map graph_of messages.old.items) (null_message (types_of types.now) header.now name.now) ≡ Ok (map graph_of messages.new.items)) }
+    ensures refusal { IfErr result (λ e. Tells e (with_message (map graph_of messages.old.items) (null_message (types_of types.now) header.now name.now))) }
 {
-    let message = null_meant(alloc, header, name)?;
+    let message = null_message(alloc, types, header, name)?;
     add(messages, message)?;
     Ok(())
 }
@@ -69,12 +65,14 @@ fn definition_meant(
     name: &Named,
     def: &DefTree,
 ) -> Result<(), Fault>
+    requires boolean { HasBoolean (types_of types.now) }
+    requires elaborated { MakesElaborated (types_of types.now) header.now name.now def.now }
     ensures meaning { IfOk result (λ x. definition_meant (types_of types.now) header.now (map graph_of messages.old.items) name.now def.now ≡ Ok (map graph_of messages.new.items)) }
     ensures refusal { IfErr result (λ e. Tells e (definition_meant (types_of types.now) header.now (map graph_of messages.old.items) name.now def.now)) }
 {
     match def {
         DefTree::Message(tree) => add_message(alloc, types, header, messages, name, tree),
-        DefTree::NullMessage => add_null(alloc, header, messages, name),
+        DefTree::NullMessage => add_null(alloc, types, header, messages, name),
         DefTree::Unsigned(_) => Ok(()),
         DefTree::Range(_, _, _) => Ok(()),
         DefTree::Enumeration(_, _) => Ok(()),
@@ -90,6 +88,8 @@ fn declaration_meant(
     messages: &mut Vec<Message>,
     decl: &DeclTree,
 ) -> Result<(), Fault>
+    requires boolean { HasBoolean (types_of types.now) }
+    requires elaborated { DeclarationMakes (types_of types.now) header.now decl.now }
     ensures meaning { IfOk result (λ x. declaration_meant (types_of types.now) header.now (map graph_of messages.old.items) decl.now ≡ Ok (map graph_of messages.new.items)) }
     ensures refusal { IfErr result (λ e. Tells e (declaration_meant (types_of types.now) header.now (map graph_of messages.old.items) decl.now)) }
 {
@@ -108,6 +108,8 @@ pub(crate) fn package_messages(
     messages: &mut Vec<Message>,
     package: &PackageTree,
 ) -> Result<(), Fault>
+    requires boolean { HasBoolean (types_of types.now) }
+    requires elaborated { PackageMakes (types_of types.now) «package».now }
     ensures meaning { IfOk result (λ x. package_messages (types_of types.now) (map graph_of messages.old.items) «package».now ≡ Ok (map graph_of messages.new.items)) }
     ensures refusal { IfErr result (λ e. Tells e (package_messages (types_of types.now) (map graph_of messages.old.items) «package».now)) }
 {

@@ -312,3 +312,33 @@ fn messages_have_128_fields(rt: HostRuntime) -> Result<(), Fail> {
     assert_eq!(rt; told, Some((0, 21, 2, 6)));
     Ok(())
 }
+
+// Adds a field of this name, in whose condition A is halved so often.
+fn push_halving(text: &mut String, name: &str, count: usize) -> Result<(), Fail> {
+    text.push_str(name)?;
+    text.push_str(" : U8 if 0")?;
+    for _ in 0..count {
+        text.push_str(" + A / 2")?;
+    }
+    text.push_str(" = 0;")?;
+    Ok(())
+}
+
+// A message of two fields, in whose conditions A is halved so often.
+fn halving(alloc: Global, first: usize, second: usize) -> Result<String, Fail> {
+    let mut text = String::new(alloc);
+    push_halving(&mut text, "A", first)?;
+    push_halving(&mut text, "B", second)?;
+    text.push_str("end message")?;
+    Ok(text)
+}
+
+#[test]
+fn paths_have_189_scalars_and_divisions(rt: HostRuntime) -> Result<(), Fail> {
+    let alloc = rt.alloc();
+    let told = of_message(alloc, &halving(alloc, 94, 93)?, "")?;
+    assert_eq!(rt; told, None);
+    let told = of_message(alloc, &halving(alloc, 95, 93)?, "M")?;
+    assert_eq!(rt; told, Some((0, 21, 2, 6)));
+    Ok(())
+}

@@ -1,4 +1,4 @@
-use Rattle.std.proofs.Common.{rules, ◌≡◌, IfErr, subst, List}
+use Rattle.std.proofs.Common.{rules, ◌≡◌, IfErr, subst}
 use Rattle.rx_judge.specs.Meaning.{Tells}
 use Rattle.rx_judge.specs.Names.{scope_of}
 use Rattle.rx_elab.specs.Firsts.{layings_of}

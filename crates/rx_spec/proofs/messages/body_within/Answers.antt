@@ -1,9 +1,7 @@
-use Rattle.std.proofs.Common.{rules, ◌≡◌, IfErr, subst, List}
-use Rattle.rx_syntax.specs.declared.tree.Named.{Named}
+use Rattle.std.proofs.Common.{rules, ◌≡◌, IfErr, subst}
 use Rattle.rx_judge.specs.Meaning.{Tells}
-use Rattle.rx_judge.specs.Names.{Scope}
 use Rattle.rx_elab.specs.Types.{types_of}
-use Rattle.rx_spec.specs.Messages.{known_fields, scope_in, body_shaped}
+use Rattle.rx_spec.specs.Messages.{known_fields, body_shaped}
 use Rattle.rx_spec.specs.Shape.{shape_of_code}
 use Rattle.rx_spec.proofs.messages.body_within.Goals as goal
 
