@@ -1,3 +1,5 @@
 pub mod Laws
 pub mod Reports
+pub mod Table
+pub mod Told
 pub mod Verdicts

@@ -1,0 +1,43 @@
+-- What shows a verdict, and the numbers of a point.
+--   told passes evidence         passed or failed by the evidence
+--   IsEvidence path evidence     the evidence is a point of the query of the path, in numbers
+--   IsNatural limit z            a number that is not below 0 and below the limit
+--   AreNumbers known             a length, and the numbers behind it
+--   TellsNumbers path known e    the evidence is this path with this length and these numbers
+--   scalar_in domains kind       the scalar type of a field of this kind, if it is a scalar
+use Rattle.std.specs.Prelude.{◌≡◌, ◌<◌, ◌^◌, ℕ, ℤ, pos, Bool, true, false, List, [], ◌∷◌, map, Option, None, slice_get}
+use Rattle.std.specs.List.{AllByRecursion}
+use Rattle.rx_types.specs.declared.scalar.FieldType.{FieldType}
+use Rattle.rx_types.specs.declared.scalar.FieldType.TheVariants.{Scalar, Opaque, Sequence}
+use Rattle.rx_types.specs.Domain.{Domain}
+use Rattle.rx_graph.specs.Graph.{Graph}
+use Rattle.rx_layout.specs.declared.goal.Goal.{Goal}
+use Rattle.rx_checks.specs.declared.verdict.Evidence.{Evidence}
+use Rattle.rx_checks.specs.declared.verdict.Evidence.TheVariants.{Proofs, Found}
+use Rattle.rx_checks.specs.declared.verdict.Verdict.{Verdict}
+use Rattle.rx_checks.specs.declared.verdict.Verdict.TheVariants.{Passed, Failed}
+use Rattle.rx_checks.specs.Verdicts.{IsFound}
+
+abbrev pub told : Bool → Evidence → Verdict
+told true evidence = Passed evidence
+told false evidence = Failed evidence
+
+abbrev pub IsEvidence : List Domain → Graph → Goal → List ℕ → Evidence → Type 0
+IsEvidence domains m goal path (Proofs proofs) = ⊥
+IsEvidence domains m goal path (Found p total numbers) = (p ≡ path) × IsFound domains m goal path total numbers.items
+
+abbrev pub IsNatural : ℕ → ℤ → Type 0
+IsNatural limit z = (n : ℕ) × (z ≡ pos n) × (n < limit)
+
+abbrev pub AreNumbers : List ℤ → Type 0
+AreNumbers [] = ⊥
+AreNumbers (total ∷ numbers) = IsNatural (2 ^ 24) total × AllByRecursion (IsNatural (2 ^ 64)) numbers
+
+abbrev pub TellsNumbers : List ℕ → List ℤ → Evidence → Type 0
+TellsNumbers path known (Proofs proofs) = ⊥
+TellsNumbers path known (Found p total numbers) = (p ≡ path) × (pos total ∷ map (λ n. pos n) numbers.items ≡ known)
+
+abbrev pub scalar_in : List Domain → FieldType → Option Domain
+scalar_in domains (Scalar t) = slice_get domains t
+scalar_in domains Opaque = None
+scalar_in domains (Sequence t) = None
