@@ -194,7 +194,7 @@ module _ (domains : List Domain) (m : Graph) (splits : ℕ) (goal : Goal) where
   found_shown path rest (Proofs proofs) p h = absurd h
   found_shown path rest (Found q total numbers) p h = (
     subst (λ (x : List ℕ). IsFirst (λ y. walk_of y ≡ AtPoint) (path ∷ rest) x) (sym h.0) (first_here (λ y. walk_of y ≡ AtPoint) path rest p),
-    subst (λ (x : List ℕ). Verdicts.IsFound domains m goal x total numbers.items) (sym h.0) h.1,
+    subst (λ (x : List ℕ). Verdicts.IsFound domains m splits goal x total numbers.items) (sym h.0) (record { fields = h.1.fields; met = h.1.met; numbers_are = h.1.numbers_are }),
   )
 
   pub point_found : (b : Bool) (path : List ℕ) (e : Evidence) (v : Verdict) → b ≡ is_universal goal → v ≡ told (not b) e → walk_of path ≡ AtPoint → IsEvidence domains m goal path e → (rest : List (List ℕ)) → IsVerdict (path ∷ rest) v

@@ -2,7 +2,8 @@
 use Rattle.std.proofs.Common.{◌≡◌, refl, sym, ap, subst, ◌∙◌, ℕ, zero, suc, ◌+◌, ◌<◌, ◌≤◌, arith, List, [], ◌∷◌, ◌++◌, length, get_or, Some}
 use Rattle.rx_types.specs.Domain.{Domain}
 use Rattle.rx_graph.specs.declared.message.Node.{Node}
-use Rattle.rx_graph.specs.Graph.{Arrow, Graph}
+use Rattle.rx_graph.specs.declared.message.Link.{Link}
+use Rattle.rx_graph.specs.Graph.{Arrow, Graph, arrows}
 use Rattle.rx_graph.specs.Cycles.{IsPath, ArePathsTo, HasPathsUpTo, HasMorePathsTo}
 use Rattle.rx_graph.specs.Elaborated.{IsElaborated, IsSource}
 use Rattle.rx_graph.specs.Laws.{HasOneList}
@@ -22,6 +23,13 @@ have_at m k i [] entry h l e = absurd (omega (arith, l))
 have_at m k zero (x ∷ xs) entry h l e =
     subst (λ (y : NodePaths). ArePathsTo m (node_at (k + 0)) y.paths.items) (sym e) (subst (λ n. ArePathsTo m (node_at n) x.paths.items) (omega arith) h.0)
 have_at m k (suc i) (x ∷ xs) entry h l e = subst (λ n. ArePathsTo m (node_at n) entry.paths.items) (omega arith) (have_at m (suc k) i xs entry h.1 (omega (arith, l)) e)
+
+pub links_as_many : (ls : List Link) → length (arrows ls) ≡ length ls
+links_as_many [] = refl
+links_as_many (l ∷ ls) = let e = links_as_many ls in omega (arith, e)
+
+pub few_paths : (domains : List Domain) (m : Graph) → IsElaborated domains m → (node : Node) → HasPathsUpTo m node 4096
+few_paths domains m el node = ?
 
 -- at most 4,096 paths and more than 4,096 paths are not both
 pub few_or_many : (m : Graph) (end : Node) (n : ℕ) → HasOneList m → HasPathsUpTo m end n → HasMorePathsTo m end n → ⊥

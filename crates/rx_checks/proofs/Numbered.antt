@@ -1,6 +1,7 @@
 -- The numbers of the scalars of a path: how many they are, how small, and that they are those of evidence.
 use Rattle.std.proofs.Common.{◌≡◌, refl, sym, ap, subst, ◌∙◌, ℕ, zero, suc, ◌+◌, ◌<◌, ◌≤◌, ◌^◌, arith, List, [], ◌∷◌, ◌++◌, length, take, drop, get_or, map, ℤ, pos, Option, Some, None}
-use Rattle.std.specs.Prelude.{slice_get}
+use Rattle.std.specs.Prelude.{slice_get, slice_index_or, true, false}
+use Rattle.std.proofs.Math.Pow.{pow_mono}
 use Rattle.std.specs.List.{AllByRecursion}
 use Rattle.std.proofs.lemmas.List.{drop_more, length-take}
 use Rattle.rx_types.specs.declared.scalar.FieldType.{FieldType}
@@ -19,6 +20,7 @@ use Rattle.rx_forms.specs.Carried.{number_if}
 use Rattle.rx_forms.specs.Steps
 use Rattle.rx_forms.specs.Steps.{link_then, target_field, scalars_in}
 use Rattle.rx_forms.proofs.Carrying.{numbers_length}
+use Rattle.rx_forms.proofs.Looping.{next_link, scalars_append}
 use Rattle.rx_layout.specs.declared.goal.Goal.{Goal}
 use Rattle.rx_layout.specs.Goals.{source, MetBy}
 use Rattle.rx_layout.specs.Laws
@@ -32,11 +34,18 @@ use Rattle.rx_checks.proofs.Judged.{all_append}
 same_some : {X : Type 0} (a b : X) → Some a ≡ Some b → a ≡ b
 same_some a b h = cc
 
-power_most : (n : ℕ) → n < 64 → 2 ^ n ≤ 2 ^ 64
-power_most n l = ?
+below_64 : (n size : ℕ) → n < 2 ^ size → size < 64 → n < 2 ^ 64
+below_64 n size lt few = let most : 2 ^ size ≤ 2 ^ 64 = pow_mono {i = size} {j = 64} (omega arith) in omega arith
+
+literal_below : (literals : List Literal) (size k : ℕ) (d : Literal) → k < length literals → slice_index_or literals k d ≡ d → AllByRecursion (λ l. l.number < 2 ^ size) literals → d.number < 2 ^ size
+literal_below [] size k d l e all = absurd (omega arith)
+literal_below (x ∷ xs) size zero d l e all = subst (λ (y : Literal). y.number < 2 ^ size) e all.0
+literal_below (x ∷ xs) size (suc k) d l e all = literal_below xs size k d (omega arith) e all.1
 
 number_small : (t : Domain) (n : ℕ) → IsProper t → IsNumberOf t n → n < 2 ^ 64
-number_small t n p h = ?
+number_small (Integer first last size) n p h = below_64 n size (omega (arith, h.1, p.3)) p.1
+number_small (Enumeration literals size true) n p h = below_64 n size h p.1
+number_small (Enumeration literals size false) n p h = below_64 n size (subst (λ k. k < 2 ^ size) h.2 (literal_below literals size h.1.0 h.0 h.1.1 h.1.2 p.2.below)) p.1
 
 module _ (domains : List Domain) (m : Graph) where
   typed_proper : (k : FieldType) (t : Domain) → IsFieldType domains m k → (elim k [ Scalar i ↦ slice_get domains i | Opaque ↦ None | Sequence i ↦ None ]) ≡ Some t → IsProper t
@@ -61,14 +70,20 @@ module _ (domains : List Domain) (m : Graph) where
       (number_natural (type_of domains m p.field) p.number (λ t e. field_proper el p.field (slice_get m.fields p.field) t refl e) h.3.number)
       (numbers_natural el total (before ++ p ∷ []) (At p.field) path fields end h.4)
 
+  -- what is left of a path behind an index
+  pub scalars_next : (path : List ℕ) (k : ℕ) → k < length path → Steps.scalars_on domains m (Steps.links_on domains m (drop k path)) ≡ Steps.scalars_on domains m (Steps.links_on domains m (get_or path k 0 ∷ [])) + Steps.scalars_on domains m (Steps.links_on domains m (drop (k + 1) path))
+  scalars_next path k h =
+      ap (λ (ls : List Arrow). Steps.scalars_on domains m ls) (next_link domains m path k h)
+      ∙ scalars_append domains m (Steps.links_on domains m (get_or path k 0 ∷ [])) (Steps.links_on domains m (drop (k + 1) path))
+
   -- ---- the front of a point
 
   -- so many numbers of a point are a length and the numbers of the scalars
-  record IsFront (goal : Goal) (path : List ℕ) (known : List ℤ) : Type 0 where
-    total : ℕ
-    fields : List Placed
-    met : MetBy domains m goal total path fields
-    is : known ≡ pos total ∷ Carried.numbers_of domains m fields
+  pub record IsFront (goal : Goal) (path : List ℕ) (known : List ℤ) : Type 0 where
+    pub total : ℕ
+    pub fields : List Placed
+    pub met : MetBy domains m goal total path fields
+    pub is : known ≡ pos total ∷ Carried.numbers_of domains m fields
 
   pub front_of : (goal : Goal) (path : List ℕ) (point : List ℤ) (count : ℕ) → Laws.Meets domains m goal path point → count ≡ Steps.scalars_on domains m (Steps.links_on domains m path) → IsFront goal path (take (count + 1) point) × (count + 1 ≤ length point)
   front_of goal path point count h c =
@@ -83,14 +98,13 @@ module _ (domains : List Domain) (m : Graph) where
       front_within : (k : ℕ) (xs ys : List ℤ) → take k xs ≡ ys → k ≡ length ys → k ≤ length xs
       front_within k xs ys t e =
           let a = ap (λ (zs : List ℤ). length zs) t in
-          let b = length-take k xs in
-          ?
+          omega (arith, a, e, length-take k xs)
 
-  front_numbers : IsElaborated domains m → (goal : Goal) (path : List ℕ) (known : List ℤ) → IsFront goal path known → AreNumbers known
+  pub front_numbers : IsElaborated domains m → (goal : Goal) (path : List ℕ) (known : List ℤ) → IsFront goal path known → AreNumbers known
   front_numbers el goal path known f =
       subst AreNumbers (sym f.is) ((f.total, refl, f.met.partial.short), numbers_natural el f.total [] Start path f.fields (source goal) f.met.partial.leads)
 
-  front_evidence : (goal : Goal) (path : List ℕ) (known : List ℤ) (e : Evidence) → IsFront goal path known → TellsNumbers path known e → IsEvidence domains m goal path e
+  pub front_evidence : (goal : Goal) (path : List ℕ) (known : List ℤ) (e : Evidence) → IsFront goal path known → TellsNumbers path known e → IsEvidence domains m goal path e
   front_evidence goal path known (Proofs proofs) f h = h
   front_evidence goal path known (Found p total numbers) f h =
       let same : pos total ∷ map (λ n. pos n) numbers.items ≡ pos f.total ∷ Carried.numbers_of domains m f.fields = h.1 ∙ f.is in

@@ -1,5 +1,6 @@
 -- What shows a verdict, and the numbers of a point.
 --   told passes evidence         passed or failed by the evidence
+--   MeetsBy                      the goal is met with a length and numbers
 --   IsEvidence path evidence     the evidence is a point of the query of the path, in numbers
 --   IsNatural limit z            a number that is not below 0 and below the limit
 --   AreNumbers known             a length, and the numbers behind it
@@ -10,21 +11,29 @@ use Rattle.std.specs.List.{AllByRecursion}
 use Rattle.rx_types.specs.declared.scalar.FieldType.{FieldType}
 use Rattle.rx_types.specs.declared.scalar.FieldType.TheVariants.{Scalar, Opaque, Sequence}
 use Rattle.rx_types.specs.Domain.{Domain}
+use Rattle.rx_types.specs.Environment.{Placed}
 use Rattle.rx_graph.specs.Graph.{Graph}
+use Rattle.rx_forms.specs.Carried.{numbers_of}
 use Rattle.rx_layout.specs.declared.goal.Goal.{Goal}
+use Rattle.rx_layout.specs.Goals.{MetBy}
 use Rattle.rx_checks.specs.declared.verdict.Evidence.{Evidence}
 use Rattle.rx_checks.specs.declared.verdict.Evidence.TheVariants.{Proofs, Found}
 use Rattle.rx_checks.specs.declared.verdict.Verdict.{Verdict}
 use Rattle.rx_checks.specs.declared.verdict.Verdict.TheVariants.{Passed, Failed}
-use Rattle.rx_checks.specs.Verdicts.{IsFound}
 
 abbrev pub told : Bool → Evidence → Verdict
 told true evidence = Passed evidence
 told false evidence = Failed evidence
 
+-- the goal is met at the end of the path, with this length and these numbers
+pub record MeetsBy (domains : List Domain) (m : Graph) (goal : Goal) (path : List ℕ) (total : ℕ) (numbers : List ℕ) : Type 0 where
+  pub fields : List Placed
+  pub met : MetBy domains m goal total path fields
+  pub numbers_are : numbers_of domains m fields ≡ map (λ n. pos n) numbers
+
 abbrev pub IsEvidence : List Domain → Graph → Goal → List ℕ → Evidence → Type 0
 IsEvidence domains m goal path (Proofs proofs) = ⊥
-IsEvidence domains m goal path (Found p total numbers) = (p ≡ path) × IsFound domains m goal path total numbers.items
+IsEvidence domains m goal path (Found p total numbers) = (p ≡ path) × MeetsBy domains m goal path total numbers.items
 
 abbrev pub IsNatural : ℕ → ℤ → Type 0
 IsNatural limit z = (n : ℕ) × (z ≡ pos n) × (n < limit)

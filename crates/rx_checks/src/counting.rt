@@ -2,7 +2,7 @@
 
 ghost use Rattle.std.specs.Prelude.{◌≡◌, ◌≤◌, ◌∷◌, []};
 ghost use Rattle.rx_graph.specs.Graph.{domains_of, graph_of, type_of, arrow_of};
-ghost use Rattle.rx_forms.specs.Steps.{links_on, scalars_on, scalars_in};
+ghost use Rattle.rx_forms.specs.Steps.{links_on, scalars_on, scalars_in, target_field};
 ghost use Rattle.rx_checks.specs.Told.{scalar_in};
 
 use rx_graph::{Link, Message, Node, Spec};
