@@ -1,6 +1,6 @@
 -- Verdicts from the walks of paths, one after the other.
 use Rattle.std.proofs.Common.{◌≡◌, refl, sym, ap, subst, ◌∙◌, ℕ, zero, suc, ◌+◌, ◌<◌, ◌≤◌, arith, Bool, true, false, List, [], ◌∷◌, ◌++◌, length, take, drop, get_or, append_assoc}
-use Rattle.std.specs.Prelude.{not, ◌≢◌}
+use Rattle.std.specs.Prelude.{not, ◌≢◌, IfOk, Result, Ok, Err}
 use Rattle.std.specs.List.{AllByRecursion}
 use Rattle.std.proofs.lemmas.List.{take_more, take-append-drop, drop_more}
 use Rattle.rx_types.specs.Domain.{Domain}
@@ -54,7 +54,16 @@ past_not_over r left e h = absurd (cc)
 past_not_at : (r : Reached) (left : ℕ) → r ≡ AtPoint → r ≡ Past left → ⊥
 past_not_at r left e h = absurd (cc)
 
--- ---- lists
+-- ---- results and lists
+
+pub if_ok : {X E : Type 0} (r : Result X E) (P Q : X → Type 0) → ((x : X) → P x → Q x) → IfOk r P → IfOk r Q
+if_ok (Ok x) P Q h p = h x p
+if_ok (Err e) P Q h p = p
+
+pub all_index : {X : Type 0} (P : X → Type 0) (xs : List X) (i : ℕ) (d : X) → AllByRecursion P xs → i < length xs → P (get_or xs i d)
+all_index P [] i d a l = absurd (omega (arith, l))
+all_index P (x ∷ xs) zero d a l = a.0
+all_index P (x ∷ xs) (suc i) d a l = all_index P xs i d a.1 (omega (arith, l))
 
 pub all_append : {X : Type 0} (P : X → Type 0) (xs ys : List X) → AllByRecursion P xs → AllByRecursion P ys → AllByRecursion P (xs ++ ys)
 all_append P [] ys a b = b
@@ -163,6 +172,10 @@ module _ (domains : List Domain) (m : Graph) (splits : ℕ) (goal : Goal) where
   pub verdict_at : (paths : List (List ℕ)) (i : ℕ) (path : List ℕ) (v : Verdict) → i < length paths → path ≡ get_or paths i path → NoneAtPoint (take i paths) → walk_of path ≡ AtPoint → ((rest : List (List ℕ)) → IsVerdict (path ∷ rest) v) → IsVerdict paths v
   verdict_at paths i path v l e a p h =
       subst (λ (ps : List (List ℕ)). IsVerdict ps v) (sym (parted paths i path l e)) (at_front (take i paths) (drop (i + 1) paths) path v a p (h (drop (i + 1) paths)))
+
+  pub verdict_behind : (before : List ℕ) (paths : List (List ℕ)) (i : ℕ) (path : List ℕ) (v : Verdict) → i < length paths → path ≡ get_or paths i path → NoneAtPoint (take i paths) → walk_of path ≡ AtPoint → ((rest : List (List ℕ)) → IsVerdict (path ∷ rest) v) → walk_of before ≢ AtPoint → IsVerdict (before ∷ paths) v
+  verdict_behind before paths i path v l e a p h n =
+      subst (λ (ps : List (List ℕ)). IsVerdict (before ∷ ps) v) (sym (parted paths i path l e)) (at_front (before ∷ take i paths) (drop (i + 1) paths) path v (n, a) p (h (drop (i + 1) paths)))
 
   pub closed_at : (paths : List (List ℕ)) (i : ℕ) (path : List ℕ) (proofs : List Proof) (v : Verdict) → i < length paths → path ≡ get_or paths i path → AreClosed (take i paths) proofs → walk_of path ≡ AtPoint → ((rest : List (List ℕ)) → IsVerdict (path ∷ rest) v) → IsVerdict paths v
   closed_at paths i path proofs v l e c p h = verdict_at paths i path v l e (closed_none (take i paths) proofs c) p h

@@ -1,9 +1,9 @@
 -- The paths to the nodes of a message, one node after the other.
-use Rattle.std.proofs.Common.{◌≡◌, refl, sym, ap, subst, ◌∙◌, ℕ, zero, suc, ◌+◌, ◌<◌, ◌≤◌, arith, List, [], ◌∷◌, ◌++◌, length, get_or, Some}
+use Rattle.std.proofs.Common.{◌≡◌, refl, sym, ap, subst, ◌∙◌, ℕ, zero, suc, ◌+◌, ◌<◌, ◌≤◌, arith, List, [], ◌∷◌, ◌++◌, length, length-append, get_or, inl, inr}
+use Rattle.std.specs.List.{AllByRecursion}
 use Rattle.rx_types.specs.Domain.{Domain}
 use Rattle.rx_graph.specs.declared.message.Node.{Node}
-use Rattle.rx_graph.specs.declared.message.Link.{Link}
-use Rattle.rx_graph.specs.Graph.{Arrow, Graph, arrows}
+use Rattle.rx_graph.specs.Graph.{Arrow, Graph}
 use Rattle.rx_graph.specs.Cycles.{IsPath, ArePathsTo, HasPathsUpTo, HasMorePathsTo}
 use Rattle.rx_graph.specs.Elaborated.{IsElaborated, IsSource}
 use Rattle.rx_graph.specs.Laws.{HasOneList}
@@ -11,6 +11,7 @@ use Rattle.rx_graph.specs.Checks.{IsNumbered}
 use Rattle.rx_layout.specs.declared.goal.Goal.{Goal}
 use Rattle.rx_layout.specs.declared.goal.Goal.TheVariants.{Exclusive, Taken, Reached, Position, Grid, Overlay, Cover, Whole}
 use Rattle.rx_layout.specs.Goals.{source, IsGoal}
+use Rattle.rx_layout.specs.Listed.{Among}
 use Rattle.rx_checks.specs.declared.table.NodePaths.{NodePaths}
 use Rattle.rx_checks.specs.Table.{node_at, HavePaths}
 
@@ -24,9 +25,21 @@ have_at m k zero (x ∷ xs) entry h l e =
     subst (λ (y : NodePaths). ArePathsTo m (node_at (k + 0)) y.paths.items) (sym e) (subst (λ n. ArePathsTo m (node_at n) x.paths.items) (omega arith) h.0)
 have_at m k (suc i) (x ∷ xs) entry h l e = subst (λ n. ArePathsTo m (node_at n) entry.paths.items) (omega arith) (have_at m (suc k) i xs entry h.1 (omega (arith, l)) e)
 
-pub links_as_many : (ls : List Link) → length (arrows ls) ≡ length ls
-links_as_many [] = refl
-links_as_many (l ∷ ls) = let e = links_as_many ls in omega (arith, e)
+-- one more node
+pub kept_more : (m : Graph) (old new : List NodePaths) (entry : NodePaths) (place : ℕ) (node : Node) → new ≡ old ++ entry ∷ [] → length old ≡ place → HavePaths m 0 old → node ≡ node_at place → ArePathsTo m node entry.paths.items → (length new ≡ place + 1) × HavePaths m 0 new
+kept_more m old new entry place node e l h n a =
+    let p : node ≡ node_at (0 + length old) = n ∙ ap node_at (omega (arith, l)) in (
+      omega (arith, ap (λ (t : List NodePaths). length t) e, length-append old (entry ∷ []), l),
+      subst (λ (t : List NodePaths). HavePaths m 0 t) (sym e) (have_push m 0 old entry h (subst (λ (x : Node). ArePathsTo m x entry.paths.items) p a)),
+    )
+
+pub paths_kept : (m : Graph) (table : List NodePaths) (place : ℕ) (entry : NodePaths) (node : Node) → HavePaths m 0 table → place < length table → entry ≡ get_or table place entry → node_at place ≡ node → ArePathsTo m node entry.paths.items
+paths_kept m table place entry node h l e n =
+    subst (λ (x : Node). ArePathsTo m x entry.paths.items) (ap node_at (omega arith) ∙ n) (have_at m 0 place table entry h l e)
+
+pub all_listed : (P : Goal → Type 0) (goals : List Goal) → ((g : Goal) → Among g goals → P g) → AllByRecursion P goals
+all_listed P [] h = tt
+all_listed P (g ∷ goals) h = (h g (inl refl), all_listed P goals (λ x a. h x (inr a)))
 
 pub few_paths : (domains : List Domain) (m : Graph) → IsElaborated domains m → (node : Node) → HasPathsUpTo m node 4096
 few_paths domains m el node = ?

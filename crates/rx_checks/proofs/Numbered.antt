@@ -20,13 +20,13 @@ use Rattle.rx_forms.specs.Carried.{number_if}
 use Rattle.rx_forms.specs.Steps
 use Rattle.rx_forms.specs.Steps.{link_then, target_field, scalars_in}
 use Rattle.rx_forms.proofs.Carrying.{numbers_length}
-use Rattle.rx_forms.proofs.Looping.{next_link, scalars_append}
+use Rattle.rx_forms.proofs.Looping.{next_link, scalars_append, found_link, lost_link}
 use Rattle.rx_layout.specs.declared.goal.Goal.{Goal}
 use Rattle.rx_layout.specs.Goals.{source, MetBy}
 use Rattle.rx_layout.specs.Laws
 use Rattle.rx_checks.specs.declared.verdict.Evidence.{Evidence}
 use Rattle.rx_checks.specs.declared.verdict.Evidence.TheVariants.{Proofs, Found}
-use Rattle.rx_checks.specs.Told.{IsEvidence, IsNatural, AreNumbers, TellsNumbers}
+use Rattle.rx_checks.specs.Told.{IsEvidence, IsNatural, TellsNumbers}
 use Rattle.rx_checks.proofs.Judged.{all_append}
 
 -- ---- how small the numbers are
@@ -76,42 +76,72 @@ module _ (domains : List Domain) (m : Graph) where
       ap (λ (ls : List Arrow). Steps.scalars_on domains m ls) (next_link domains m path k h)
       ∙ scalars_append domains m (Steps.links_on domains m (get_or path k 0 ∷ [])) (Steps.links_on domains m (drop (k + 1) path))
 
+  pub one_scalar : (i : ℕ) (l : Arrow) (f n : ℕ) → slice_get m.links i ≡ Some l → f ≡ target_field l.target → n ≡ scalars_in (type_of domains m f) → n ≡ Steps.scalars_on domains m (Steps.links_on domains m (i ∷ []))
+  one_scalar i l f n e g h =
+      let a = ap (λ (ls : List Arrow). Steps.scalars_on domains m ls) (found_link domains m i l e) in
+      let b = ap (λ (x : ℕ). scalars_in (type_of domains m x)) g in
+      omega (arith, h, a, b)
+
+  pub no_scalar : (i : ℕ) → slice_get m.links i ≡ None → 0 ≡ Steps.scalars_on domains m (Steps.links_on domains m (i ∷ []))
+  no_scalar i e = sym (ap (λ (ls : List Arrow). Steps.scalars_on domains m ls) (lost_link domains m i e))
+
   -- ---- the front of a point
 
-  -- so many numbers of a point are a length and the numbers of the scalars
-  pub record IsFront (goal : Goal) (path : List ℕ) (known : List ℤ) : Type 0 where
+  -- the first number of a point is a length, and so many behind it are the numbers of the scalars
+  pub record IsFront (goal : Goal) (path : List ℕ) (point : List ℤ) (count : ℕ) : Type 0 where
     pub total : ℕ
     pub fields : List Placed
     pub met : MetBy domains m goal total path fields
-    pub is : known ≡ pos total ∷ Carried.numbers_of domains m fields
+    pub long : count < length point
+    pub first : get_or point 0 (pos 0) ≡ pos total
+    pub numbers : take count (drop 1 point) ≡ Carried.numbers_of domains m fields
 
-  pub front_of : (goal : Goal) (path : List ℕ) (point : List ℤ) (count : ℕ) → Laws.Meets domains m goal path point → count ≡ Steps.scalars_on domains m (Steps.links_on domains m path) → IsFront goal path (take (count + 1) point) × (count + 1 ≤ length point)
+  heads : (a b : ℤ) (xs ys : List ℤ) → a ∷ xs ≡ b ∷ ys → a ≡ b
+  heads a b xs ys e = cc
+
+  tails : (a b : ℤ) (xs ys : List ℤ) → a ∷ xs ≡ b ∷ ys → xs ≡ ys
+  tails a b xs ys e = cc
+
+  one_more : (z : ℤ) (zs : List ℤ) → length (z ∷ zs) ≡ suc (length zs)
+  one_more z zs = omega arith
+
+  cut_parts : (total count : ℕ) (ns point : List ℤ) → count ≡ length ns → take (length (pos total ∷ ns)) point ≡ pos total ∷ ns → (count < length point) × (get_or point 0 (pos 0) ≡ pos total) × (take count (drop 1 point) ≡ ns)
+  cut_parts total count ns [] e t =
+      let a = ap (λ (zs : List ℤ). length zs) t in
+      let b : length (take (length (pos total ∷ ns)) ([] {A = ℤ})) ≤ 0 = none_taken (length (pos total ∷ ns)) in
+      absurd (omega (arith, a, b))
+    where
+      none_taken : (k : ℕ) → length (take k ([] {A = ℤ})) ≤ 0
+      none_taken k = omega (arith, length-take k ([] {A = ℤ}))
+  cut_parts total count ns (z ∷ xs) e t =
+      let u : z ∷ take (length ns) xs ≡ pos total ∷ ns = sym (ap (λ (k : ℕ). take k (z ∷ xs)) (one_more (pos total) ns)) ∙ t in
+      let v = tails z (pos total) (take (length ns) xs) ns u in
+      let l = ap (λ (zs : List ℤ). length zs) v in (
+        omega (arith, l, length-take (length ns) xs, e),
+        heads z (pos total) (take (length ns) xs) ns u,
+        ap (λ (k : ℕ). take k xs) e ∙ v,
+      )
+
+  pub front_of : (goal : Goal) (path : List ℕ) (point : List ℤ) (count : ℕ) → Laws.Meets domains m goal path point → count ≡ Steps.scalars_on domains m (Steps.links_on domains m path) → IsFront goal path point count
   front_of goal path point count h c =
       let numbers = Carried.numbers_of domains m h.1 in
       let l = numbers_length domains m h.0 [] Start path h.1 (source goal) h.2.partial.leads in
-      let e : count + 1 ≡ length (pos h.0 ∷ numbers) = omega (arith, c, l) in
-      let t : take (count + 1) point ≡ pos h.0 ∷ numbers = ap (λ (k : ℕ). take k point) e ∙ h.3 in (
-        record { total = h.0; fields = h.1; met = h.2; is = t },
-        front_within (count + 1) point (pos h.0 ∷ numbers) t e,
-      )
-    where
-      front_within : (k : ℕ) (xs ys : List ℤ) → take k xs ≡ ys → k ≡ length ys → k ≤ length xs
-      front_within k xs ys t e =
-          let a = ap (λ (zs : List ℤ). length zs) t in
-          omega (arith, a, e, length-take k xs)
+      let parts = cut_parts h.0 count numbers point (c ∙ sym l) h.3 in
+      record { total = h.0; fields = h.1; met = h.2; long = parts.0; first = parts.1; numbers = parts.2 }
 
-  pub front_numbers : IsElaborated domains m → (goal : Goal) (path : List ℕ) (known : List ℤ) → IsFront goal path known → AreNumbers known
-  front_numbers el goal path known f =
-      subst AreNumbers (sym f.is) ((f.total, refl, f.met.partial.short), numbers_natural el f.total [] Start path f.fields (source goal) f.met.partial.leads)
+  pub front_total : (goal : Goal) (path : List ℕ) (point : List ℤ) (count : ℕ) → IsFront goal path point count → IsNatural (2 ^ 24) (get_or point 0 (pos 0))
+  front_total goal path point count f = (f.total, f.first, f.met.partial.short)
 
-  pub front_evidence : (goal : Goal) (path : List ℕ) (known : List ℤ) (e : Evidence) → IsFront goal path known → TellsNumbers path known e → IsEvidence domains m goal path e
-  front_evidence goal path known (Proofs proofs) f h = h
-  front_evidence goal path known (Found p total numbers) f h =
-      let same : pos total ∷ map (λ n. pos n) numbers.items ≡ pos f.total ∷ Carried.numbers_of domains m f.fields = h.1 ∙ f.is in
-      (h.0, record { fields = f.fields; met = subst (λ (n : ℕ). MetBy domains m goal n path f.fields) (first_same total f.total _ _ same) f.met; numbers_are = rest_same (pos total) (pos f.total) _ _ same })
-    where
-      first_same : (a b : ℕ) (xs ys : List ℤ) → pos a ∷ xs ≡ pos b ∷ ys → b ≡ a
-      first_same a b xs ys e = cc
+  pub front_numbers : IsElaborated domains m → (goal : Goal) (path : List ℕ) (point : List ℤ) (count : ℕ) → IsFront goal path point count → AllByRecursion (IsNatural (2 ^ 64)) (take count (drop 1 point))
+  front_numbers el goal path point count f =
+      subst (λ (zs : List ℤ). AllByRecursion (IsNatural (2 ^ 64)) zs) (sym f.numbers) (numbers_natural el f.total [] Start path f.fields (source goal) f.met.partial.leads)
 
-      rest_same : (a b : ℤ) (xs ys : List ℤ) → a ∷ xs ≡ b ∷ ys → ys ≡ xs
-      rest_same a b xs ys e = cc
+  same_pos : (a b : ℕ) → pos a ≡ pos b → a ≡ b
+  same_pos a b e = cc
+
+  pub front_evidence : (goal : Goal) (path : List ℕ) (point : List ℤ) (count : ℕ) (e : Evidence) → IsFront goal path point count → TellsNumbers path (get_or point 0 (pos 0)) (take count (drop 1 point)) e → IsEvidence domains m goal path e
+  front_evidence goal path point count (Proofs proofs) f h = h
+  front_evidence goal path point count (Found p n ns) f h = (
+    h.0,
+    record { fields = f.fields; met = subst (λ (k : ℕ). MetBy domains m goal k path f.fields) (same_pos f.total n (sym (h.1 ∙ f.first))) f.met; numbers_are = sym (h.2 ∙ f.numbers) },
+  )

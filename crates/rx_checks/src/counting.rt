@@ -1,12 +1,14 @@
 //! How many scalars a path has.
 
-ghost use Rattle.std.specs.Prelude.{◌≡◌, ◌≤◌, ◌∷◌, []};
+ghost use Rattle.std.specs.Prelude.{◌≡◌, ◌≤◌, ◌∷◌, [], slice_get};
+ghost use Rattle.std.specs.Option.{option_copied};
 ghost use Rattle.rx_graph.specs.Graph.{domains_of, graph_of, type_of, arrow_of};
 ghost use Rattle.rx_forms.specs.Steps.{links_on, scalars_on, scalars_in, target_field};
 ghost use Rattle.rx_checks.specs.Told.{scalar_in};
 
 use rx_graph::{Link, Message, Node, Spec};
 use rx_types::{FieldId, FieldType};
+use sqlite_items::at;
 
 /// 1 where a field of this kind is a scalar, else 0.
 fn scalars_of(kind: FieldType, spec: &Spec) -> usize
@@ -45,12 +47,19 @@ fn target_field(link: &Link) -> FieldId
     }
 }
 
+/// The link at an index, if there is one.
+fn link_at(message: &Message, index: u16) -> Option<&Link>
+    ensures { option_copied result ≡ slice_get message.now.links.items index }
+{
+    at(message.links.as_slice(), index as usize)
+}
+
 /// 1 where the link at an index leads to a scalar, else 0.
 fn scalars_under(index: u16, message: &Message, spec: &Spec) -> usize
     ensures value { result ≡ scalars_on (domains_of spec.now) (graph_of message.now) (links_on (domains_of spec.now) (graph_of message.now) (index ∷ [])) }
     ensures one { result ≤ 1 }
 {
-    match message.links.get(index as usize) {
+    match link_at(message, index) {
         Some(link) => scalars_in(target_field(link), message, spec),
         None => 0,
     }

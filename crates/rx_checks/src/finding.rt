@@ -1,6 +1,6 @@
 //! The length and the numbers of a point.
 
-ghost use Rattle.std.specs.Prelude.{◌≡◌, ◌≤◌, ◌<◌, ◌^◌, ◌+◌, ◌∷◌, [], pos, map, length, Some, IfOk, slice_get};
+ghost use Rattle.std.specs.Prelude.{◌≡◌, ◌<◌, ◌^◌, pos, map, take, drop, length, Some, IfOk, slice_get, slice_index_or};
 ghost use Rattle.std.specs.List.{AllByRecursion};
 ghost use Rattle.rx_types.specs.Domain.{Domain, boolean};
 ghost use Rattle.rx_graph.specs.declared.message.Node.TheVariants.{Start};
@@ -10,7 +10,7 @@ ghost use Rattle.rx_graph.specs.Graph.{domains_of, graph_of};
 ghost use Rattle.rx_layout.specs.Goals.{source, IsGoal};
 ghost use Rattle.rx_layout.specs.Laws.{IsPoint};
 ghost use Rattle.rx_layout.specs.QueryOf.{query_for};
-ghost use Rattle.rx_checks.specs.Told.{IsEvidence, TellsNumbers, IsNatural, AreNumbers};
+ghost use Rattle.rx_checks.specs.Told.{IsEvidence, TellsNumbers, IsNatural};
 
 use crate::counting::scalars_along;
 use crate::fault::NoMemory;
@@ -47,19 +47,41 @@ fn numbers_in(alloc: Global, numbers: &[i128]) -> Result<Vec<u64>, NoMemory>
     Ok(all)
 }
 
-/// A length and the numbers behind it, as evidence.
-fn numbered(alloc: Global, path: &Path, known: &[i128]) -> Result<Evidence, NoMemory>
-    requires { AreNumbers known.now }
-    ensures { IfOk result (TellsNumbers path.now known.now) }
+/// The path with a length and numbers, as evidence.
+fn numbered(
+    alloc: Global,
+    path: &Path,
+    total: &i128,
+    numbers: &[i128],
+) -> Result<Evidence, NoMemory>
+    requires total { IsNatural (2 ^ 24) total.now }
+    requires numbers { AllByRecursion (IsNatural (2 ^ 64)) numbers.now }
+    ensures { IfOk result (TellsNumbers path.now total.now numbers.now) }
 {
-    let length = length_in(&known[0]);
-    let numbers = numbers_in(alloc, &known[1..])?;
+    let length = length_in(total);
+    let numbers = numbers_in(alloc, numbers)?;
     let path = path.copy(alloc)?;
     Ok(Evidence::Found {
         path,
         length,
         numbers,
     })
+}
+
+/// The path with the first number of a point as its length, and so many numbers behind it.
+fn numbered_at(
+    alloc: Global,
+    path: &Path,
+    point: &[i128],
+    count: usize,
+) -> Result<Evidence, NoMemory>
+    requires long { count < length point.now }
+    requires total { IsNatural (2 ^ 24) (slice_index_or point.now 0 (pos 0)) }
+    requires numbers { AllByRecursion (IsNatural (2 ^ 64)) (take count (drop 1 point.now)) }
+    ensures { IfOk result (TellsNumbers path.now (slice_index_or point.now 0 (pos 0)) (take count (drop 1 point.now))) }
+{
+    let numbers = &point[1..];
+    numbered(alloc, path, &point[0], &numbers[..count])
 }
 
 /// The length and the numbers of the path's scalars at a point of its query.
@@ -80,5 +102,5 @@ pub(crate) fn evidence_at(
 {
     points_meet_goals(spec, message);
     let count = scalars_along(path.links(), message, spec);
-    numbered(alloc, path, &point[..count + 1])
+    numbered_at(alloc, path, point, count)
 }

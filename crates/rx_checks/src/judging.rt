@@ -15,7 +15,7 @@ ghost use Rattle.rx_layout.specs.Goals.{source, IsGoal, is_universal};
 ghost use Rattle.rx_layout.specs.Laws.{IsPoint};
 ghost use Rattle.rx_layout.specs.QueryOf.{query_for};
 ghost use Rattle.rx_checks.specs.Verdicts.{walk_of, IsVerdict};
-ghost use Rattle.rx_checks.specs.Told.{told};
+ghost use Rattle.rx_checks.specs.Told.{told, IsFirstPoint};
 
 use crate::asking::ask;
 use crate::fault::NoMemory;
@@ -94,6 +94,40 @@ fn point_for(
     }
 }
 
+/// The verdict by the first path whose walk comes to a point, if there is one.
+fn first_point(
+    alloc: Global,
+    message: &Message,
+    spec: &Spec,
+    splits: u32,
+    goal: &Goal,
+    paths: &[Path],
+) -> Result<Option<Verdict>, NoMemory>
+    requires elaborated { IsElaborated (domains_of spec.now) (graph_of message.now) }
+    requires boolean { (d : Domain) → slice_get (domains_of spec.now) 0 ≡ Some d → d ≡ boolean }
+    requires limit { KeepsLimit (domains_of spec.now) (graph_of message.now) }
+    requires few { (1 ≤ splits) × (splits ≤ 4096) }
+    requires goal { IsGoal (domains_of spec.now) (graph_of message.now) goal.now }
+    requires paths { AllByRecursion (λ p. IsPath (graph_of message.now) Start p (source goal.now)) paths.now }
+    ensures { IfOk result (IsFirstPoint (domains_of spec.now) (graph_of message.now) splits goal.now paths.now) }
+{
+    for path in paths {
+        if let Some(point) = point_for(alloc, message, spec, splits, goal, path)? {
+            let verdict = found(alloc, message, spec, splits, goal, path, &point)?;
+            return Ok(Some(verdict));
+        }
+    }
+    Ok(None)
+}
+
+/// The verdict by the first path whose walk needs more splits.
+fn undecided(alloc: Global, path: &Path, tree: OpenTree) -> Result<Verdict, NoMemory>
+    ensures { IfOk result (λ verdict. verdict ≡ Verdict.Undecided path.now tree) }
+{
+    let path = path.copy(alloc)?;
+    Ok(Verdict::Undecided { path, tree })
+}
+
 /// The verdict behind a path whose walk needs more splits: by a point of a later path, if one has it.
 fn later(
     alloc: Global,
@@ -115,13 +149,10 @@ fn later(
     requires proper { IsProper (root (query_for (domains_of spec.now) (graph_of message.now) goal.now path.now)) splits tree }
     ensures { IfOk result (IsVerdict (domains_of spec.now) (graph_of message.now) splits goal.now (path.now ∷ rest.now)) }
 {
-    for other in rest {
-        if let Some(point) = point_for(alloc, message, spec, splits, goal, other)? {
-            return found(alloc, message, spec, splits, goal, other, &point);
-        }
+    match first_point(alloc, message, spec, splits, goal, rest)? {
+        Some(verdict) => Ok(verdict),
+        None => undecided(alloc, path, tree),
     }
-    let path = path.copy(alloc)?;
-    Ok(Verdict::Undecided { path, tree })
 }
 
 /// The verdict on a goal, where these are the paths to its source.

@@ -1,10 +1,11 @@
 use Rattle.std.proofs.Common.{arith}
 use Rattle.rx_graph.specs.Graph.{domains_of, graph_of}
-use Rattle.rx_checks.proofs.Kept.{links_as_many, few_or_many, few_paths}
+use Rattle.rx_graph.proofs.Ways.{length-arrows}
+use Rattle.rx_checks.proofs.Kept.{few_or_many, few_paths}
 use Rattle.rx_checks.proofs.table.paths_at.Goals as goal
 
 pub paths_to-requires-clause-few : goal.paths_to-requires-clause-few
-paths_to-requires-clause-few c = omega (arith, links_as_many c.args.message.now.links.items, c.requires.few_links)
+paths_to-requires-clause-few c = omega (arith, length-arrows c.args.message.now.links.items, c.requires.few_links)
 
 pub unreachable-requires : goal.unreachable-requires
 unreachable-requires c =
