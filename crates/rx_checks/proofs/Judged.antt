@@ -1,8 +1,8 @@
 -- Verdicts from the walks of paths, one after the other.
-use Rattle.std.proofs.Common.{◌≡◌, refl, sym, ap, subst, ◌∙◌, ℕ, zero, suc, ◌+◌, ◌<◌, ◌≤◌, arith, Bool, true, false, List, [], ◌∷◌, ◌++◌, length, take, drop, get_or, append_assoc}
+use Rattle.std.proofs.Common.{◌≡◌, refl, sym, ap, subst, ◌∙◌, ℕ, zero, suc, ◌+◌, ◌-◌, ◌<◌, ◌≤◌, arith, Bool, true, false, List, [], ◌∷◌, ◌++◌, length, length-drop, take, drop, get_or, append_assoc}
 use Rattle.std.specs.Prelude.{not, ◌≢◌, IfOk, Result, Ok, Err}
 use Rattle.std.specs.List.{AllByRecursion}
-use Rattle.std.proofs.lemmas.List.{take_more, take-append-drop, drop_more}
+use Rattle.std.proofs.lemmas.List.{take_more, take_all, take-append-drop, drop_more}
 use Rattle.rx_types.specs.Domain.{Domain}
 use Rattle.rx_graph.specs.Graph.{Graph}
 use Rattle.rx_proof.specs.declared.query.Query.{Query}
@@ -78,6 +78,9 @@ pub all_drop : {X : Type 0} (P : X → Type 0) (n : ℕ) (xs : List X) → AllBy
 all_drop P zero xs a = a
 all_drop P (suc n) [] a = tt
 all_drop P (suc n) (x ∷ xs) a = all_drop P n xs a.1
+
+pub rest_whole : {X : Type 0} (xs : List X) (k : ℕ) → take (length xs - k) (drop k xs) ≡ drop k xs
+rest_whole xs k = take_all (length xs - k) (drop k xs) (omega (arith, length-drop k xs))
 
 -- the list, parted at one element
 pub parted : {X : Type 0} (xs : List X) (i : ℕ) (x : X) → i < length xs → x ≡ get_or xs i x → xs ≡ take i xs ++ x ∷ drop (i + 1) xs

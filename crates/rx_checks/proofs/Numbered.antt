@@ -108,11 +108,8 @@ module _ (domains : List Domain) (m : Graph) where
   cut_parts : (total count : ℕ) (ns point : List ℤ) → count ≡ length ns → take (length (pos total ∷ ns)) point ≡ pos total ∷ ns → (count < length point) × (get_or point 0 (pos 0) ≡ pos total) × (take count (drop 1 point) ≡ ns)
   cut_parts total count ns [] e t =
       let a = ap (λ (zs : List ℤ). length zs) t in
-      let b : length (take (length (pos total ∷ ns)) ([] {A = ℤ})) ≤ 0 = none_taken (length (pos total ∷ ns)) in
-      absurd (omega (arith, a, b))
-    where
-      none_taken : (k : ℕ) → length (take k ([] {A = ℤ})) ≤ 0
-      none_taken k = omega (arith, length-take k ([] {A = ℤ}))
+      let nothing : List ℤ = [] in
+      absurd (omega (arith, a, length-take (length (pos total ∷ ns)) nothing))
   cut_parts total count ns (z ∷ xs) e t =
       let u : z ∷ take (length ns) xs ≡ pos total ∷ ns = sym (ap (λ (k : ℕ). take k (z ∷ xs)) (one_more (pos total) ns)) ∙ t in
       let v = tails z (pos total) (take (length ns) xs) ns u in
