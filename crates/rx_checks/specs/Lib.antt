@@ -1,3 +1,4 @@
 pub mod Laws
 pub mod Reports
+pub mod Steps
 pub mod Verdicts

@@ -3,12 +3,12 @@
 ghost use Rattle.std.specs.Prelude.{◌≡◌, Some, IfOk, slice_get};
 ghost use Rattle.rx_types.specs.Domain.{Domain, boolean};
 ghost use Rattle.rx_graph.specs.Elaborated.{IsElaborated};
-ghost use Rattle.rx_graph.specs.Graph.{domains_of, graph_of};
+ghost use Rattle.rx_graph.specs.Graph.{graph_of};
 ghost use Rattle.rx_forms.specs.Code.{domains_in};
-ghost use Rattle.rx_forms.specs.PathLimit.{keeps_limit, LimitIsKept};
+ghost use Rattle.rx_forms.specs.PathLimit.{keeps_limit};
 
 use crate::fault::NoMemory;
-use rx_graph::{Message, Scalar, Spec};
+use rx_graph::{Message, Scalar};
 use std::alloc::Global;
 
 /// Whether each path from the start, with the conditions of at most two links of its end, stays within the path limit: at most 189
@@ -20,9 +20,3 @@ pub fn keeps_limit(alloc: Global, message: &Message, scalars: &[Scalar]) -> Resu
 {
     Err(NoMemory)
 }
-
-/// Where that is so, every path of the message stays within the limit.
-pub fn limit_is_kept(spec: &Spec, message: &Message)
-    requires elaborated { IsElaborated (domains_of spec.now) (graph_of message.now) }
-    ensures { LimitIsKept (domains_of spec.now) (graph_of message.now) }
-{}

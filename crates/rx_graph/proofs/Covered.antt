@@ -63,7 +63,7 @@ module _ (domains : List Domain) (m : Graph) where
         let ends' : (p.first +ℤ p.size) ≤ℤ covered before = omega (arith, ints) in
         omega (arith, ints, clamps)
 
-    own_covered : (path : List ℕ) (before : List Placed) (at : Node) → Leads domains m total [] Start path before at → own_sizes m before ≡ covered before → (rest : List ℕ) (more : List Placed) (end : Node) → Leads domains m total before at rest more end → own_sizes m (before ++ more) ≡ covered (before ++ more)
+    pub own_covered : (path : List ℕ) (before : List Placed) (at : Node) → Leads domains m total [] Start path before at → own_sizes m before ≡ covered before → (rest : List ℕ) (more : List Placed) (end : Node) → Leads domains m total before at rest more end → own_sizes m (before ++ more) ≡ covered (before ++ more)
     own_covered path before at lead so_far [] [] end h = ap (own_sizes m) (append-nil before) ∙ so_far ∙ ap covered (sym (append-nil before))
     own_covered path before at lead so_far [] (p ∷ more) end h = absurd h
     own_covered path before at lead so_far (i ∷ rest) [] end h = absurd h

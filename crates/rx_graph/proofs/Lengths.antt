@@ -23,7 +23,7 @@ none_some : (c : Content) → None ≡ Some c → ⊥
 none_some c e = cc
 
 -- each field once
-abbrev Once : List Assigned → Type 0
+abbrev pub Once : List Assigned → Type 0
 Once [] = Unit {0}
 Once (a ∷ rest) = (content_of a.field rest ≡ None) × Once rest
 
@@ -98,7 +98,7 @@ module _ (domains : List Domain) (m : Graph) where
   split f c (a ∷ rest) h = split_if (a.field == f) a f c rest (without f rest) (Decides-eqb a.field f).0 h (split f c rest)
 
   -- the place of a scalar is as long as its type says
-  abbrev HasItsSize : Placed → Type 0
+  abbrev pub HasItsSize : Placed → Type 0
   HasItsSize p = (t : Domain) → type_of domains m p.field ≡ Some t → p.size ≡ pos (size_of t)
 
   size_of_content : (o : Option Domain) (over : Option ℕ) (p : Placed) (given : Option Content) → ((t : Domain) → o ≡ Some t → p.size ≡ pos (size_of t)) → IsContent o p given → (c : Content) × (given ≡ Some c) × (pos (unless_overlay over (content_size o c)) ≡ size_if over p.size)
@@ -118,7 +118,7 @@ module _ (domains : List Domain) (m : Graph) where
       (subst (λ o. IsContent (type_of domains m p.field) p o) (sym (others_stay f p.field values (λ e. apart (inl e)))) h.0, kept f values ps (λ k. apart (inr k)) h.1)
 
   -- only the path's fields have contents
-  abbrev OnlyOf : List Assigned → List Placed → Type 0
+  abbrev pub OnlyOf : List Assigned → List Placed → Type 0
   OnlyOf values ps = (f : ℕ) (c : Content) → content_of f values ≡ Some c → IsAmong f ps
 
   here : (a : Assigned) (rest : List Assigned) → content_of a.field (a ∷ rest) ≡ Some a.content
@@ -138,7 +138,7 @@ module _ (domains : List Domain) (m : Graph) where
   left : (p : Placed) (ps : List Placed) (values : List Assigned) → Once values → OnlyOf values (p ∷ ps) → OnlyOf (without p.field values) ps
   left p ps values o n f c h = left_if p ps values o n f c h (f == p.field) refl
 
-  sums : (ps : List Placed) (values : List Assigned) → Once values → Differ ps → OnlyOf values ps → AllByRecursion (λ p. IsContent (type_of domains m p.field) p (content_of p.field values)) ps → AllByRecursion HasItsSize ps → pos (own_bits domains m values) ≡ own_sizes m ps
+  pub sums : (ps : List Placed) (values : List Assigned) → Once values → Differ ps → OnlyOf values ps → AllByRecursion (λ p. IsContent (type_of domains m p.field) p (content_of p.field values)) ps → AllByRecursion HasItsSize ps → pos (own_bits domains m values) ≡ own_sizes m ps
   sums [] [] o d n c s = refl
   sums [] (a ∷ rest) o d n c s = absurd (n a.field a.content (here a rest))
   sums (p ∷ ps) values o d n c s =
@@ -149,7 +149,7 @@ module _ (domains : List Domain) (m : Graph) where
       omega (arith, ints, all)
 
   module _ (total : ℕ) where
-    sizes : (before : List Placed) (at : Node) (path : List ℕ) (fields : List Placed) (end : Node) → Leads domains m total before at path fields end → AllByRecursion HasItsSize fields
+    pub sizes : (before : List Placed) (at : Node) (path : List ℕ) (fields : List Placed) (end : Node) → Leads domains m total before at path fields end → AllByRecursion HasItsSize fields
     sizes before at [] [] end h = tt
     sizes before at [] (p ∷ fields) end h = absurd h
     sizes before at (i ∷ path) [] end h = absurd h
@@ -165,7 +165,7 @@ module _ (domains : List Domain) (m : Graph) where
   not_among f (p ∷ ps) h (inl e) = true_false (sym ((Decides-eqb f p.field).1 (sym e)) ∙ h.0)
   not_among f (p ∷ ps) h (inr k) = not_among f ps h.1 k
 
-  differ : (ps : List Placed) → AreDistinct ps → Differ ps
+  pub differ : (ps : List Placed) → AreDistinct ps → Differ ps
   unfolding IsDistinct
   differ [] h = tt
   differ (p ∷ ps) h = (not_among p.field ps h.0, differ ps h.1)

@@ -2,10 +2,12 @@
 use Rattle.std.specs.Prelude.{◌≡◌, ℕ, List, Bool, true, false}
 use Rattle.rx_io.specs.Shelf.{Texts}
 use Rattle.rx_program.specs.declared.answer.Answer.{Answer}
-use Rattle.rx_program.specs.declared.answer.Answer.TheVariants.{Usage, ShelfFault, NoPackage, TextLimit, Refused, PackageLimit, SourceFault, Input}
+use Rattle.rx_program.specs.declared.answer.Answer.TheVariants.{Usage, ShelfFault, NoPackage, TextLimit, Refused, PackageLimit, Checked, Rejected, SourceFault, Input, Output}
 use Rattle.rx_program.specs.declared.answer.Decoding.TheVariants.{Json}
 use Rattle.rx_program.specs.Request.{Request, AnswersTo}
 use Rattle.rx_program.specs.Answers.{Answers}
+use Rattle.rx_program.specs.declared.answer.Encoding.TheVariants as encoding
+use Rattle.rx_report.specs.declared.reported.Reported.{Reported}
 
 -- a fault of the shelf or the source, which may take the place of another answer
 abbrev pub is_fault : Answer → Bool
@@ -27,11 +29,23 @@ abbrev pub OneEnd : Type 0
 OneEnd = (words : List (List ℕ)) (texts : Texts) (input : List ℕ) (one other : Answer) → IsEnd one → is_fault other ≡ false
     → Answers words texts input one → Answers words texts input other → one ≡ other
 
--- the same answer; of JSON the same bytes
+-- the same verdicts: the steps of proofs, lengths and numbers may be others
+pub record IsSameReport (one other : Reported) : Type 0 where
+  pub passed : one.passed ≡ other.passed
+  pub failed : one.failed ≡ other.failed
+  pub undecided : one.undecided ≡ other.undecided
+
+-- the same answer; of texts the same bytes, of reports the same counts
 abbrev pub IsSame : Answer → Answer → Type 0
 IsSame (Input (Json one)) (Input (Json other)) = one.items ≡ other.items
+IsSame (Output (encoding.Bytes one)) (Output (encoding.Bytes other)) = one.items ≡ other.items
+IsSame (Output (encoding.UnknownField one)) (Output (encoding.UnknownField other)) = one.items ≡ other.items
+IsSame (Output (encoding.BadValue one)) (Output (encoding.BadValue other)) = one.items ≡ other.items
+IsSame (Output (encoding.Duplicate one)) (Output (encoding.Duplicate other)) = one.items ≡ other.items
+IsSame (Checked one) (Checked other) = IsSameReport one other
+IsSame (Rejected one) (Rejected other) = IsSameReport one other
 IsSame one other = one ≡ other
 
--- but for faults, who asks for a message of these packages has one answer to an input
+-- but for faults, a request of these packages has one answer to an input
 abbrev pub OneOfPackages : Type 0
 OneOfPackages = (r : Request) (input : List ℕ) (one other : Answer) → is_fault one ≡ false → is_fault other ≡ false → AnswersTo r input one → AnswersTo r input other → IsSame one other

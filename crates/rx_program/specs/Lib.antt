@@ -1,4 +1,5 @@
 pub mod Words
+pub mod Asked
 pub mod Names
 pub mod Refusals
 pub mod Closure

@@ -1,22 +1,42 @@
 -- How an answer shows: the status, and the bytes that are written.
-use Rattle.std.specs.Prelude.{◌≡◌, ℕ, List, [], ◌∷◌, ◌++◌, Option, Some, None, take, codes}
+use Rattle.std.specs.Prelude.{◌≡◌, ◌==◌, ℕ, List, [], ◌∷◌, ◌++◌, Option, Some, None, take, codes, if◌then◌else◌}
 use Rattle.std.specs.Str.{str_to_ascii_lowercase}
 use Rattle.rx_io.specs.Shelf.{Texts}
 use Rattle.rx_program.specs.declared.status.Status.{Status}
-use Rattle.rx_program.specs.declared.status.Status.TheVariants.{Done, Words, Specification, InputRefused, SinkFault, Limit, NoMemory}
+use Rattle.rx_program.specs.declared.status.Status.TheVariants.{Done, NotAccepted, Words, Specification, Undecided, InputRefused, SinkFault, Limit, NoMemory}
 use Rattle.rx_program.specs.declared.status.Status.TheVariants.{SourceFault as SourceStatus, ShelfFault as ShelfStatus}
 use Rattle.rx_syntax.specs.declared.token.Place.{Place}
 use Rattle.rx_types.specs.declared.stuck.Reason.{Reason}
 use Rattle.rx_types.specs.declared.stuck.Reason.TheVariants as reason
+use Rattle.rx_serial.specs.declared.fault.UnfitReason.{UnfitReason}
+use Rattle.rx_serial.specs.declared.fault.UnfitReason.TheVariants as unfit
+use Rattle.rx_report.specs.declared.reported.Reported.{Reported}
+use Rattle.serde_json.specs.Data.{string}
+use Rattle.serde_json.specs.Written.{compact_text}
+use Rattle.rx_program.specs.declared.answer.Decoding.{Decoding}
 use Rattle.rx_program.specs.declared.answer.Decoding.TheVariants.{Json, Stuck}
+use Rattle.rx_program.specs.declared.answer.Encoding.{Encoding}
+use Rattle.rx_program.specs.declared.answer.Encoding.TheVariants.{Bytes, NotJson, NotObject, UnknownField, BadValue, Duplicate, Unsatisfied, Unused}
 use Rattle.rx_program.specs.declared.answer.Answer.{Answer}
-use Rattle.rx_program.specs.declared.answer.Answer.TheVariants.{Usage, ShelfFault, NoPackage, TextLimit, Refused, PackageLimit, Unserved, Broken, NoMessage, Branching, Unchecked, SourceFault, InputLimit, Input}
+use Rattle.rx_program.specs.declared.answer.Answer.TheVariants.{Usage, ShelfFault, NoPackage, TextLimit, Refused, PackageLimit, Unserved, Broken, NoMessage, Checked, Rejected, SourceFault, InputLimit, Input, Output}
 use Rattle.rx_program.specs.declared.refusal.Cause.TheVariants.{Unsupported}
 use Rattle.rx_judge.specs.declared.fault.Refusal as judge
 use Rattle.rx_program.specs.declared.refusal.Refusal.{Refusal}
 use Rattle.rx_program.specs.Refusals.{refusal_text, breach_text}
 use Rattle.rx_program.specs.Stage.{word_of}
 use Rattle.rx_program.specs.Answers.{Answers}
+
+-- NotAccepted where a check failed, else Undecided where one is undecided
+abbrev pub status_of_report : Reported → Status
+status_of_report r = if r.failed == 0 then (if r.undecided == 0 then Done else Undecided) else NotAccepted
+
+abbrev pub status_of_decoding : Decoding → Status
+status_of_decoding (Json text) = Done
+status_of_decoding (Stuck reason field) = InputRefused
+
+abbrev pub status_of_encoding : Encoding → Status
+status_of_encoding (Bytes bytes) = Done
+status_of_encoding refused = InputRefused
 
 -- the status of an answer that was written whole
 abbrev pub status_of : Answer → Status
@@ -29,12 +49,12 @@ status_of PackageLimit = Limit
 status_of (Unserved file unserved) = Specification
 status_of (Broken file breach) = Specification
 status_of (NoMessage name message) = Specification
-status_of (Branching name place) = Specification
-status_of (Unchecked name place) = Specification
+status_of (Checked reported) = status_of_report reported
+status_of (Rejected reported) = status_of_report reported
 status_of SourceFault = SourceStatus
 status_of InputLimit = Limit
-status_of (Input (Json text)) = Done
-status_of (Input (Stuck reason field)) = InputRefused
+status_of (Input decoding) = status_of_decoding decoding
+status_of (Output encoding) = status_of_encoding encoding
 
 -- a line
 abbrev pub line : List ℕ → List ℕ
@@ -71,6 +91,29 @@ name_text (Some name) = codes " " ++ name
 abbrev pub stuck_text : Reason → Option (List ℕ) → List ℕ
 stuck_text reason name = line (codes "refused: " ++ reason_name reason ++ name_text name)
 
+abbrev pub unfit_name : UnfitReason → List ℕ
+unfit_name unfit.Condition = codes "Condition"
+unfit_name unfit.Missing = codes "Missing"
+unfit_name unfit.Value = codes "Value"
+unfit_name unfit.Size = codes "Size"
+unfit_name unfit.Short = codes "Short"
+unfit_name unfit.Overlay = codes "Overlay"
+
+-- `refused: NUMBER NAME KEY`, the key as JSON
+abbrev pub key_line : List ℕ → List ℕ → List ℕ
+key_line rule key = line (codes "refused: " ++ rule ++ codes " " ++ compact_text (string key))
+
+-- the bytes of a message alone, or why there are none
+abbrev pub encoding_text : Encoding → List ℕ
+encoding_text (Bytes bytes) = bytes.items
+encoding_text NotJson = line (codes "refused: 30 NotJson")
+encoding_text NotObject = line (codes "refused: 31 NotObject")
+encoding_text (UnknownField key) = key_line (codes "32 UnknownField") key.items
+encoding_text (BadValue key) = key_line (codes "33 BadValue") key.items
+encoding_text (Duplicate key) = key_line (codes "34 Duplicate") key.items
+encoding_text (Unsatisfied name reason) = line (codes "refused: 41 Unsatisfied" ++ name_text name ++ codes " " ++ unfit_name reason)
+encoding_text (Unused name) = line (codes "refused: 42 Unused" ++ name_text name)
+
 -- the text is that of the answer
 abbrev pub IsText : Answer → List ℕ → Type 0
 IsText Usage text = text ≡ line (codes "usage: rflx check P, decode P::M [--deep Q], encode P::M, run P::S, load N, all with [--splits K]")
@@ -82,12 +125,13 @@ IsText PackageLimit text = text ≡ line (codes "limit: packages")
 IsText (Unserved name unserved) text = text ≡ unsupported_text name unserved.place (word_of unserved.form)
 IsText (Broken name breach) text = text ≡ broken_text name breach
 IsText (NoMessage name message) text = text ≡ line (file_of name ++ codes ": 8 UnknownName " ++ message)
-IsText (Branching name place) text = text ≡ unsupported_text name place (codes "Branching")
-IsText (Unchecked name place) text = text ≡ unsupported_text name place (codes "Unchecked")
+IsText (Checked reported) text = text ≡ reported.text.items
+IsText (Rejected reported) text = text ≡ reported.text.items
 IsText SourceFault text = text ≡ line (codes "fault: source")
 IsText InputLimit text = text ≡ line (codes "limit: input")
 IsText (Input (Json json)) text = text ≡ line json.items
 IsText (Input (Stuck reason name)) text = text ≡ stuck_text reason name
+IsText (Output encoding) text = text ≡ encoding_text encoding
 
 -- the status is that of the answer, or what may take the place of any other
 abbrev pub IsShown : Answer → Status → Type 0
@@ -117,7 +161,7 @@ MayRefuseWords SinkFault = Unit {0}
 MayRefuseWords NoMemory = Unit {0}
 MayRefuseWords status = ⊥
 
--- the input was read to its end
+-- the input was read to its end, where the command has one and came to its answer
 abbrev pub ReadsAll : Status → Type 0 → Type 0
 ReadsAll Done at_end = at_end
 ReadsAll InputRefused at_end = at_end

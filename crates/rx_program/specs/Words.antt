@@ -1,23 +1,46 @@
--- The words of a command: which commands there are, and what they name.
--- IsOperand: a word that names something of a package; IsDecode: the words of `decode`; HaveNoForm: no command's.
-use Rattle.std.specs.Prelude.{◌≡◌, ◌==◌, not, Bool, ℕ, true, List, [], ◌∷◌, ◌++◌, codes}
-use Rattle.rx_program.specs.Names.{is_name}
+-- What the words of a command ask for.
+--   Does, Ask         what is done, with which package, and how many splits a query may take
+--   asked_for words   what the words ask for, if they have the form of a command that is served
+use Rattle.std.specs.Prelude.{◌≡◌, ℕ, Bool, true, false, List, Option, Some, None, option_and_then}
+use Rattle.rx_words.specs.Words.{Asked, Check, Decode, Encode, Run, Load, Wanted, form_of}
 
--- no `:`
-abbrev pub is_no_colon : ℕ → Bool
-is_no_colon b = not (b == 58)
+-- all messages of the package are checked, or an input is decoded or encoded as this message of it
+pub data Does : Type 0 where
+  Checks : Does
+  Decodes : List ℕ → Does
+  Encodes : List ℕ → Does
 
--- a word that names something of a package, as in `P::M`: two names round two colons
-pub record IsOperand (word name item : List ℕ) : Type 0 where
-  pub parts : word ≡ name ++ 58 ∷ 58 ∷ item
-  pub name_is : is_name name ≡ true
-  pub item_is : is_name item ≡ true
+pub record Ask : Type 0 where
+  pub name : List ℕ
+  pub does : Does
+  pub splits : ℕ
 
--- the words of `decode` of a message of the package of this name
-abbrev pub IsDecode : List (List ℕ) → List ℕ → List ℕ → Type 0
-IsDecode (command ∷ operand ∷ []) name message = (command ≡ codes "decode") × IsOperand operand name message
-IsDecode words name message = ⊥
+-- machines, workloads and further packages are not served yet
+abbrev pub ask_with : ℕ → Asked → Option Ask
+ask_with splits (Check name) = Some (record { name = name; does = Checks; splits = splits })
+ask_with splits (Decode name message None) = Some (record { name = name; does = Decodes message; splits = splits })
+ask_with splits (Decode name message (Some further)) = None
+ask_with splits (Encode name message) = Some (record { name = name; does = Encodes message; splits = splits })
+ask_with splits (Run name machine) = None
+ask_with splits (Load count) = None
+
+abbrev pub asked_for : List (List ℕ) → Option Ask
+asked_for words = option_and_then (λ wanted. ask_with wanted.splits wanted.command) (form_of words)
 
 -- the words are those of no command
 abbrev pub HaveNoForm : List (List ℕ) → Type 0
-HaveNoForm words = (name message : List ℕ) → IsDecode words name message → ⊥
+HaveNoForm words = asked_for words ≡ None
+
+-- the message that is asked for
+abbrev pub message_asked : Does → Option (List ℕ)
+message_asked Checks = None
+message_asked (Decodes message) = Some message
+message_asked (Encodes message) = Some message
+
+-- the words ask for a command with an input
+abbrev pub HaveInput : List (List ℕ) → Type 0
+HaveInput words = (ask : Ask) × (message : List ℕ) × (asked_for words ≡ Some ask) × (message_asked ask.does ≡ Some message)
+
+-- the words ask for a command without an input
+abbrev pub HaveNoInput : List (List ℕ) → Type 0
+HaveNoInput words = (ask : Ask) × (asked_for words ≡ Some ask) × (message_asked ask.does ≡ None)

@@ -2,16 +2,33 @@
 use crate::refusal::Refusal;
 use crate::stage::Unserved;
 use rx_judge::Refusal as Breach;
-use rx_syntax::Place;
+use rx_report::Reported;
+use rx_serial::UnfitReason;
 use rx_types::{Name, Reason};
 
-/// What the input is of a message.
+/// What a buffer is of a message.
 #[derive(Debug, Drop)]
 pub enum Decoding {
     /// It reads as this JSON.
     Json(Vec<u8>),
     /// No path fits it: the longest one stops for this reason, at this field, if any.
     Stuck(Reason, Option<Name>),
+}
+
+/// What a JSON text is of a message. Members are told by their keys.
+#[derive(Debug, Drop)]
+pub enum Encoding {
+    /// The buffer that reads as its valuation.
+    Bytes(Vec<u8>),
+    NotJson,
+    NotObject,
+    UnknownField(Vec<u8>),
+    BadValue(Vec<u8>),
+    Duplicate(Vec<u8>),
+    /// The valuation does not lead on from this field, the path's last, or to this one.
+    Unsatisfied(Option<Name>, UnfitReason),
+    /// The path ends, and lacks this field of the valuation.
+    Unused(Option<Name>),
 }
 
 /// What a command answers.
@@ -34,11 +51,15 @@ pub enum Answer {
     Broken(Name, Breach),
     /// The package has no message of the second name.
     NoMessage(Name, Name),
-    /// The message of this package branches, at this link.
-    Branching(Name, Place),
-    /// The message of this package, whose name stands there, is not plain.
-    Unchecked(Name, Place),
+    /// The checks of all messages.
+    Checked(Reported),
+    /// The checks of the message that is asked for, some of which did not pass.
+    Rejected(Reported),
     SourceFault,
+    /// The input is too long, or makes a message that is.
     InputLimit,
+    /// What the input is where it is decoded.
     Input(Decoding),
+    /// What the input is where it is encoded.
+    Output(Encoding),
 }

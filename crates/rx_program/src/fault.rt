@@ -40,3 +40,15 @@ impl From<rx_decode::NoMemory> for NoMemory {
         NoMemory
     }
 }
+
+impl From<rx_report::NoMemory> for NoMemory {
+    fn from(_: rx_report::NoMemory) -> Self {
+        NoMemory
+    }
+}
+
+impl From<rx_encode::NoMemory> for NoMemory {
+    fn from(_: rx_encode::NoMemory) -> Self {
+        NoMemory
+    }
+}

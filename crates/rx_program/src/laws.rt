@@ -6,7 +6,8 @@ pub fn one_end()
     ensures { OneEnd }
 {}
 
-/// The packages that were read, the message that is asked for and the input have one answer, but for faults of the source.
+/// The packages that were read, what is asked for and the input have one answer, but for faults of the source, and for steps, lengths
+/// and numbers of reports.
 pub fn one_of_packages()
     ensures { OneOfPackages }
 {}

@@ -7,11 +7,12 @@ mod closure;
 #[cfg(test)]
 mod closure_tests;
 mod fault;
+mod inputs;
 pub mod laws;
-mod names;
 mod operand;
 mod print;
 mod refusal;
+mod serving;
 mod stage;
 mod status;
 #[cfg(test)]

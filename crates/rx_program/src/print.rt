@@ -4,14 +4,17 @@ ghost use Rattle.std.specs.Io.KnownBytes.{Appends};
 ghost use Rattle.rx_io.specs.Faults.{HasRisen};
 ghost use Rattle.std.specs.Str.{IsAscii};
 ghost use Rattle.rx_program.specs.Refusals.{number_of, label_of, place_text, refusal_text, rule_name, breach_text};
-ghost use Rattle.rx_program.specs.Outcome.{status_of, file_of, refused_text, unsupported_text, broken_text, reason_name, name_text, stuck_text, IsText, IsShown, Prints};
+ghost use Rattle.rx_program.specs.Outcome.{status_of, file_of, refused_text, unsupported_text, broken_text, reason_name, name_text, stuck_text, status_of_report, status_of_decoding, status_of_encoding, unfit_name, key_line, encoding_text, IsText, IsShown, Prints};
 
-use crate::answer::{Answer, Decoding};
+use crate::answer::{Answer, Decoding, Encoding};
 use crate::fault::NoMemory;
 use crate::refusal::{Cause, Refusal};
 use crate::status::Status;
+use rx_encode::key_text;
 use rx_io::{Sink, write_all};
 use rx_judge::Refusal as Breach;
+use rx_report::Reported;
+use rx_serial::UnfitReason;
 use rx_syntax::{Place, Word};
 use rx_types::{Name, Reason};
 use std::alloc::Global;
@@ -235,6 +238,45 @@ fn stuck(alloc: Global, reason: Reason, name: &Option<Name>) -> Result<Vec<u8>, 
     line_of(alloc, b"refused: ", reason_name(reason).as_bytes(), &name)
 }
 
+// NotAccepted where a check failed, else Undecided where one is undecided.
+fn status_of_report(reported: &Reported) -> Status
+    ensures { result ≡ status_of_report reported.now }
+{
+    if reported.failed != 0 {
+        return Status::NotAccepted;
+    }
+    if reported.undecided != 0 {
+        return Status::Undecided;
+    }
+    Status::Done
+}
+
+// The status of what a buffer is.
+fn status_of_decoding(decoding: &Decoding) -> Status
+    ensures { result ≡ status_of_decoding decoding.now }
+{
+    match decoding {
+        Decoding::Json(_) => Status::Done,
+        Decoding::Stuck(_, _) => Status::InputRefused,
+    }
+}
+
+// The status of what a text is.
+fn status_of_encoding(encoding: &Encoding) -> Status
+    ensures { result ≡ status_of_encoding encoding.now }
+{
+    match encoding {
+        Encoding::Bytes(_) => Status::Done,
+        Encoding::NotJson => Status::InputRefused,
+        Encoding::NotObject => Status::InputRefused,
+        Encoding::UnknownField(_) => Status::InputRefused,
+        Encoding::BadValue(_) => Status::InputRefused,
+        Encoding::Duplicate(_) => Status::InputRefused,
+        Encoding::Unsatisfied(_, _) => Status::InputRefused,
+        Encoding::Unused(_) => Status::InputRefused,
+    }
+}
+
 // The status of an answer.
 fn status_of(answer: &Answer) -> Status
     ensures { result ≡ status_of answer.now }
@@ -249,28 +291,88 @@ fn status_of(answer: &Answer) -> Status
         Answer::Unserved(_, _) => Status::Specification,
         Answer::Broken(_, _) => Status::Specification,
         Answer::NoMessage(_, _) => Status::Specification,
-        Answer::Branching(_, _) => Status::Specification,
-        Answer::Unchecked(_, _) => Status::Specification,
+        Answer::Checked(reported) => status_of_report(reported),
+        Answer::Rejected(reported) => status_of_report(reported),
         Answer::SourceFault => Status::SourceFault,
         Answer::InputLimit => Status::Limit,
-        Answer::Input(Decoding::Json(_)) => Status::Done,
-        Answer::Input(Decoding::Stuck(_, _)) => Status::InputRefused,
+        Answer::Input(decoding) => status_of_decoding(decoding),
+        Answer::Output(encoding) => status_of_encoding(encoding),
     }
 }
 
-// The text of what the input is.
-fn input_text(alloc: Global, decoding: &Decoding) -> Result<Vec<u8>, NoMemory>
-    ensures { IfOk result (λ text. IsText (Answer.Input decoding.now) text.items) }
+// A text as a line.
+fn as_line(mut text: Vec<u8>) -> Result<Vec<u8>, NoMemory>
+    ensures { IfOk result (λ line. line.items ≡ text.items ++ 10 ∷ []) }
+{
+    put(&mut text, b"\n")?;
+    Ok(text)
+}
+
+// The text of what a buffer is.
+fn input_text(alloc: Global, decoding: Decoding) -> Result<Vec<u8>, NoMemory>
+    ensures { IfOk result (λ text. IsText (Answer.Input decoding) text.items) }
 {
     match decoding {
-        Decoding::Json(json) => line_of(alloc, b"", json, b""),
-        Decoding::Stuck(reason, name) => stuck(alloc, *reason, name),
+        Decoding::Json(json) => as_line(json),
+        Decoding::Stuck(reason, name) => stuck(alloc, reason, &name),
+    }
+}
+
+// The name of a reason why a valuation fits no path.
+fn unfit_name(reason: UnfitReason) -> &'static str
+    ensures { result.now ≡ unfit_name reason }
+{
+    match reason {
+        UnfitReason::Condition => "Condition",
+        UnfitReason::Missing => "Missing",
+        UnfitReason::Value => "Value",
+        UnfitReason::Size => "Size",
+        UnfitReason::Short => "Short",
+        UnfitReason::Overlay => "Overlay",
+    }
+}
+
+// The line of a member that is refused.
+fn key_line(alloc: Global, rule: &str, key: &[u8]) -> Result<Vec<u8>, NoMemory>
+    ensures { IfOk result (λ text. text.items ≡ key_line rule.now key.now) }
+{
+    let key = key_text(alloc, key)?;
+    let mut rule_and_key = Vec::new(alloc);
+    put_both(&mut rule_and_key, rule.as_bytes(), b" ")?;
+    line_of(alloc, b"refused: ", &rule_and_key, &key)
+}
+
+// The line of a valuation that does not lead on.
+fn unsatisfied(alloc: Global, name: &Option<Name>, reason: UnfitReason) -> Result<Vec<u8>, NoMemory>
+    ensures { IfOk result (λ text. text.items ≡ encoding_text (Encoding.Unsatisfied name.now reason)) }
+{
+    let mut told = name_text(alloc, name)?;
+    put_both(&mut told, b" ", unfit_name(reason).as_bytes())?;
+    line_of(alloc, b"refused: 41 Unsatisfied", &told, b"")
+}
+
+// The text of what a JSON text is.
+fn output_text(alloc: Global, encoding: Encoding) -> Result<Vec<u8>, NoMemory>
+    ensures { IfOk result (λ text. text.items ≡ encoding_text encoding) }
+{
+    match encoding {
+        Encoding::Bytes(bytes) => Ok(bytes),
+        Encoding::NotJson => line_of(alloc, b"refused: 30 NotJson", b"", b""),
+        Encoding::NotObject => line_of(alloc, b"refused: 31 NotObject", b"", b""),
+        Encoding::UnknownField(key) => key_line(alloc, "32 UnknownField", &key),
+        Encoding::BadValue(key) => key_line(alloc, "33 BadValue", &key),
+        Encoding::Duplicate(key) => key_line(alloc, "34 Duplicate", &key),
+        Encoding::Unsatisfied(name, reason) => unsatisfied(alloc, &name, reason),
+        Encoding::Unused(name) => {
+            let name = name_text(alloc, &name)?;
+            line_of(alloc, b"refused: 42 Unused", &name, b"")
+        }
     }
 }
 
 // The text of an answer.
-fn text_of(alloc: Global, answer: &Answer) -> Result<Vec<u8>, NoMemory>
-    ensures { IfOk result (λ text. IsText answer.now text.items) }
+fn text_of(alloc: Global, answer: Answer) -> Result<Vec<u8>, NoMemory>
+    ensures { IfOk result (λ text. IsText answer text.items) }
 {
     match answer {
         Answer::Usage => line_of(
@@ -280,35 +382,37 @@ fn text_of(alloc: Global, answer: &Answer) -> Result<Vec<u8>, NoMemory>
             b"",
         ),
         Answer::ShelfFault => line_of(alloc, b"fault: shelf", b"", b""),
-        Answer::NoPackage(name) => unknown(alloc, name, name),
+        Answer::NoPackage(name) => unknown(alloc, &name, &name),
         Answer::TextLimit(name) => {
-            let file = file_of(alloc, name)?;
+            let file = file_of(alloc, &name)?;
             line_of(alloc, b"limit: text ", &file, b"")
         }
-        Answer::Refused(name, refusal) => refused(alloc, name, refusal),
+        Answer::Refused(name, refusal) => refused(alloc, &name, &refusal),
         Answer::PackageLimit => line_of(alloc, b"limit: packages", b"", b""),
         Answer::Unserved(name, unserved) => {
-            unsupported(alloc, name, unserved.place, unserved.form.word())
+            unsupported(alloc, &name, unserved.place, unserved.form.word())
         }
-        Answer::Broken(name, breach) => broken(alloc, name, breach),
-        Answer::NoMessage(name, message) => unknown(alloc, name, message),
-        Answer::Branching(name, place) => unsupported(alloc, name, *place, "Branching"),
-        Answer::Unchecked(name, place) => unsupported(alloc, name, *place, "Unchecked"),
+        Answer::Broken(name, breach) => broken(alloc, &name, &breach),
+        Answer::NoMessage(name, message) => unknown(alloc, &name, &message),
+        Answer::Checked(reported) => Ok(reported.text),
+        Answer::Rejected(reported) => Ok(reported.text),
         Answer::SourceFault => line_of(alloc, b"fault: source", b"", b""),
         Answer::InputLimit => line_of(alloc, b"limit: input", b"", b""),
         Answer::Input(decoding) => input_text(alloc, decoding),
+        Answer::Output(encoding) => output_text(alloc, encoding),
     }
 }
 
 /// Writes the text of an answer.
-pub fn print<O: Sink>(alloc: Global, answer: &Answer, out: &mut O) -> Status
-    ensures written { (written : List ℕ) × Appends (O.written out.old) (O.written out.new) written × Prints answer.now result written }
+pub fn print<O: Sink>(alloc: Global, answer: Answer, out: &mut O) -> Status
+    ensures written { (written : List ℕ) × Appends (O.written out.old) (O.written out.new) written × Prints answer result written }
     ensures cause { result ≡ Status.SinkFault → HasRisen (O.faults out.old) (O.faults out.new) }
-    ensures status { IsShown answer.now result }
+    ensures status { IsShown answer result }
 {
+    let status = status_of(&answer);
     match text_of(alloc, answer) {
         Ok(text) => match write_all(out, &text) {
-            Ok(()) => status_of(answer),
+            Ok(()) => status,
             Err(_) => Status::SinkFault,
         },
         Err(NoMemory) => Status::NoMemory,

@@ -1,11 +1,9 @@
 //! The forms of texts that are not served yet.
 ghost use Rattle.std.specs.Prelude.{◌≡◌, Some};
 ghost use Rattle.std.specs.Str.{IsAscii};
-ghost use Rattle.rx_program.specs.Stage.{word_of, of_aspect, of_aspects, of_then, of_thens, of_field, of_fields, of_message, of_definition, of_declaration, of_declarations, of_packages};
+ghost use Rattle.rx_program.specs.Stage.{word_of, of_definition, of_declaration, of_declarations, of_packages};
 
-use rx_syntax::{
-    AspectTree, DeclKind, DeclTree, DefTree, FieldTree, MessageTree, PackageTree, Place, ThenTree,
-};
+use rx_syntax::{DeclKind, DeclTree, DefTree, PackageTree, Place};
 
 /// A form that is not served yet.
 #[derive(Clone, Copy, Debug, PartialEq, Eq)]
@@ -13,7 +11,6 @@ pub enum Form {
     Sequence,
     New,
     For,
-    First,
 }
 
 /// A form that is not served yet, and where it stands.
@@ -40,7 +37,6 @@ impl Form {
             Form::Sequence => "sequence",
             Form::New => "new",
             Form::For => "for",
-            Form::First => "First",
         }
     }
 }
@@ -52,74 +48,13 @@ fn at(form: Form, place: Place) -> Option<Unserved>
     Some(Unserved { form, place })
 }
 
-fn of_aspect(aspect: &AspectTree) -> Option<Unserved>
-    ensures { result ≡ of_aspect aspect.now }
-{
-    match aspect {
-        AspectTree::First(place, _) => at(Form::First, *place),
-        AspectTree::Size(_, _) => None,
-    }
-}
-
-fn of_aspects(aspects: &[AspectTree]) -> Option<Unserved>
-    ensures { result ≡ of_aspects aspects.now }
-{
-    for aspect in aspects {
-        if let Some(found) = of_aspect(aspect) {
-            return Some(found);
-        }
-    }
-    None
-}
-
-fn of_thens(thens: &[ThenTree]) -> Option<Unserved>
-    ensures { result ≡ of_thens thens.now }
-{
-    for then in thens {
-        if let Some(found) = of_aspects(then.aspects.as_slice()) {
-            return Some(found);
-        }
-    }
-    None
-}
-
-fn of_field(field: &FieldTree) -> Option<Unserved>
-    ensures { result ≡ of_field field.now }
-{
-    match of_aspects(field.aspects.as_slice()) {
-        Some(found) => Some(found),
-        None => of_thens(field.thens.as_slice()),
-    }
-}
-
-fn of_fields(fields: &[FieldTree]) -> Option<Unserved>
-    ensures { result ≡ of_fields fields.now }
-{
-    for field in fields {
-        if let Some(found) = of_field(field) {
-            return Some(found);
-        }
-    }
-    None
-}
-
-fn of_message(message: &MessageTree) -> Option<Unserved>
-    ensures { result ≡ of_message message.now }
-{
-    match of_thens(message.start.as_slice()) {
-        Some(found) => Some(found),
-        None => of_fields(message.fields.as_slice()),
-    }
-}
-
-// The first form of a definition, whose declaration begins at the place.
+// The form of a definition, whose declaration begins at the place.
 fn of_definition(place: Place, definition: &DefTree) -> Option<Unserved>
     ensures { result ≡ of_definition place definition.now }
 {
     match definition {
         DefTree::Sequence(_) => at(Form::Sequence, place),
         DefTree::Derived(_) => at(Form::New, place),
-        DefTree::Message(message) => of_message(message),
         _ => None,
     }
 }

@@ -1,64 +1,91 @@
-//! Reads the words of a command.
-ghost use Rattle.std.specs.Prelude.{◌≡◌, ℕ, List, IfOk, IfSome, IfNone, map, string_bytes, length, ◌≤◌};
-ghost use Rattle.std.specs.List.{prefix_len};
-ghost use Rattle.rx_program.specs.Words.{is_no_colon, IsOperand, IsDecode, HaveNoForm};
+//! What the words of a command ask for.
+ghost use Rattle.std.specs.Prelude.{◌≡◌, ◌≤◌, Some, true, IfOk, IfSome, IfNone, map, string_bytes, option_and_then};
+ghost use Rattle.rx_words.specs.Names.{is_name};
+ghost use Rattle.rx_words.specs.Read.{wanted_of};
+ghost use Rattle.rx_words.specs.Words.{form_of};
+ghost use Rattle.rx_program.specs.Words.{ask_with, asked_for, HaveNoForm};
+ghost use Rattle.rx_program.specs.Asked.{ask_of, HasNames};
 
 use crate::fault::NoMemory;
-use crate::names::{is_name, name_of};
 use rx_types::Name;
+use rx_words::{Command, Request, WordsFault};
 use std::alloc::Global;
 
-/// A message of a package.
+/// What is done: all messages of a package are checked, or an input is decoded or encoded as this message.
 #[derive(Debug, Drop)]
-pub struct Operand {
+pub enum Does {
+    Checks,
+    Decodes(Name),
+    Encodes(Name),
+}
+
+/// What is asked for: a package, and how many splits a query may take, 1 to 4,096.
+#[derive(Debug, Drop)]
+pub struct Ask {
     pub name: Name,
-    pub message: Name,
+    pub does: Does,
+    pub splits: u32,
 }
 
-// The message that a word names.
-fn operand_of(alloc: Global, word: &[u8]) -> Result<Option<Operand>, NoMemory>
-    ensures some { IfOk result (λ read. IfSome read (λ operand. IsOperand word.now operand.name operand.message)) }
-    ensures none { IfOk result (λ read. IfNone read ((name message : List ℕ) → IsOperand word.now name message → ⊥)) }
+// The name of this text.
+fn name_of(alloc: Global, text: &str) -> Result<Name, NoMemory>
+    requires { is_name text.now ≡ true }
+    ensures { IfOk result (λ name. name ≡ text.now) }
 {
-    let at = name_length(word);
-    if word.len() - at < 2 {
-        return Ok(None);
-    }
-    if word[at + 1] != 58 {
-        return Ok(None);
-    }
-    let name = &word[..at];
-    if !is_name(name) {
-        return Ok(None);
-    }
-    let message = &word[at + 2..];
-    if !is_name(message) {
-        return Ok(None);
-    }
-    Ok(Some(Operand {
-        name: name_of(alloc, name)?,
-        message: name_of(alloc, message)?,
-    }))
+    Ok(Name::make(alloc, text.as_bytes())?)
 }
 
-// How many bytes stand before the first `:`.
-fn name_length(word: &[u8]) -> usize
-    ensures length { result ≡ prefix_len is_no_colon word.now }
-    ensures within { result ≤ length word.now }
+// What a request asks for, if it is served.
+fn ask_by(alloc: Global, request: Request<'_>) -> Result<Option<Ask>, NoMemory>
+    requires { HasNames (wanted_of request).command }
+    ensures some { IfOk result (λ read. IfSome read (λ ask. ask_with (wanted_of request).splits (wanted_of request).command ≡ Some (ask_of ask))) }
+    ensures none { IfOk result (λ read. IfNone read (ask_with (wanted_of request).splits (wanted_of request).command ≡ None)) }
 {
-    word.iter().take_while(|byte| **byte != 58).count()
+    let splits = request.splits;
+    match request.command {
+        Command::Check { package } => {
+            let name = name_of(alloc, package)?;
+            Ok(Some(Ask {
+                name,
+                does: Does::Checks,
+                splits,
+            }))
+        }
+        Command::Decode {
+            package,
+            message,
+            deep: None,
+        } => {
+            let name = name_of(alloc, package)?;
+            let message = name_of(alloc, message)?;
+            Ok(Some(Ask {
+                name,
+                does: Does::Decodes(message),
+                splits,
+            }))
+        }
+        Command::Encode { package, message } => {
+            let name = name_of(alloc, package)?;
+            let message = name_of(alloc, message)?;
+            Ok(Some(Ask {
+                name,
+                does: Does::Encodes(message),
+                splits,
+            }))
+        }
+        Command::Decode { .. } | Command::Run { .. } | Command::Load { .. } => Ok(None),
+    }
 }
 
-/// The message that the words ask for.
-pub fn read_words(alloc: Global, words: &[String]) -> Result<Option<Operand>, NoMemory>
-    ensures some { IfOk result (λ read. IfSome read (λ operand. IsDecode (map string_bytes words.now) operand.name operand.message)) }
+/// What the words after the program's own name ask for; nothing where they have no form that is served.
+pub fn read_words(alloc: Global, words: &[String]) -> Result<Option<Ask>, NoMemory>
+    ensures some { IfOk result (λ read. IfSome read (λ ask. asked_for (map string_bytes words.now) ≡ Some (ask_of ask))) }
+    ensures few { IfOk result (λ read. IfSome read (λ ask. (1 ≤ ask.splits) × (ask.splits ≤ 4096))) }
     ensures none { IfOk result (λ read. IfNone read (HaveNoForm (map string_bytes words.now))) }
 {
-    if words.len() != 2 {
-        return Ok(None);
+    match rx_words::read_words(alloc, words) {
+        Ok(request) => ask_by(alloc, request),
+        Err(WordsFault::Form) => Ok(None),
+        Err(WordsFault::NoMemory) => Err(NoMemory),
     }
-    if words[0].as_str() != "decode" {
-        return Ok(None);
-    }
-    operand_of(alloc, words[1].as_bytes())
 }

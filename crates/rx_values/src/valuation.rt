@@ -2,7 +2,7 @@
 
 ghost use Rattle.std.specs.Prelude.{◌≡◌, ◌≤◌, length, None, [], IfOk, is_some, option_map};
 ghost use Rattle.std.specs.List.{prefix_len};
-ghost use Rattle.rx_graph.specs.Fits.{content_of};
+ghost use Rattle.rx_graph.specs.Fits.{content_of, IsAscending};
 ghost use Rattle.rx_values.specs.Valuation.{assigned, content, inserted, is_before};
 
 use crate::fault::NoMemory;
@@ -85,7 +85,8 @@ impl Valuation {
 
     /// The fields with what they hold, by ascending ids.
     pub fn entries(&self) -> &[(FieldId, Value)]
-        ensures { assigned result.now ≡ self.now }
+        ensures values { assigned result.now ≡ self.now }
+        ensures ascending { IsAscending self.now }
     {
         self.entries.as_slice()
     }

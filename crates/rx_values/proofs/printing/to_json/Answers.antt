@@ -10,5 +10,5 @@ pub returns : goal.returns
 returns c =
     let domains = domains_of c.args.spec.now in
     let m = graph_of c.args.message.now in
-    let is = view-Object c.in_ok-members.members ∙ ap object (c.in_ok-members.ensures ∙ ap (members_of domains m) c.entries.ensures) in
+    let is = view-Object c.in_ok-members.members ∙ ap object (c.in_ok-members.ensures ∙ ap (members_of domains m) c.entries.ensures.values) in
     ap (λ v. v.items) c.into_bytes.ensures.value ∙ text_of_object domains m c.in_ok-text.text c.args.valuation.now _ is c.in_ok-text.ensures.text

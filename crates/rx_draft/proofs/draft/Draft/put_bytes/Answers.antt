@@ -1,4 +1,4 @@
-use Rattle.std.proofs.Common.{List, IfErr, sym, subst}
+use Rattle.std.proofs.Common.{◌≡◌, List, length, IfErr, sym, subst, rules}
 use Rattle.rx_types.specs.Domain.{Domain}
 use Rattle.rx_graph.specs.Fits.{Bytes}
 use Rattle.rx_graph.specs.Graph.{Graph}
@@ -15,4 +15,5 @@ returns-clause-refused c =
 pub returns-clause-rest : goal.returns-clause-rest
 returns-clause-rest c =
     λ start h.
-    keeps c.put_bytes.result c.self.inside.plan.now c.self.inside.buffer.now c.put_bytes.new.buffer c.self.inside.env c.put_bytes.new.env c.args.field (Bytes c.args.bytes.now) c.put_bytes.ensures.put c.put_bytes.ensures.same c.self.invariant.underway.plan start (subst (λ d. KeepsRest start d) (sym c.self.view_is) h)
+    let long : length c.put_bytes.new.buffer ≡ length c.self.inside.buffer.now = search rules in
+    keeps c.put_bytes.result c.self.inside.plan.now c.self.inside.buffer.now c.put_bytes.new.buffer c.self.inside.env c.put_bytes.new.env c.args.field (Bytes c.args.bytes.now) c.put_bytes.ensures.put c.put_bytes.ensures.same long c.self.invariant.underway.plan start (subst (λ d. KeepsRest start d) (sym c.self.view_is) h)

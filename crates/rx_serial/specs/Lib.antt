@@ -1,0 +1,3 @@
+pub mod Filling
+pub mod Rooms
+pub mod Unfit
