@@ -1,0 +1,91 @@
+-- A message is sound where every line of a report of it has passed.
+use Rattle.std.proofs.Common.{◌≡◌, sym, subst, ℕ, zero, suc, ◌<◌, arith, List, [], ◌∷◌, map, length, Bool, true, false, inl, inr}
+use Rattle.std.specs.Prelude.{Contains, slice_index_or}
+use Rattle.std.specs.List.{AllByRecursion}
+use Rattle.rx_types.specs.Domain.{Domain}
+use Rattle.rx_types.specs.Environment.{Placed}
+use Rattle.rx_graph.specs.declared.message.Node.{Node}
+use Rattle.rx_graph.specs.declared.message.Node.TheVariants.{Start, At}
+use Rattle.rx_graph.specs.Graph.{Graph, limit_of}
+use Rattle.rx_graph.specs.Cycles.{IsPath, ArePathsTo}
+use Rattle.rx_graph.specs.Paths.{Leads}
+use Rattle.rx_graph.specs.Elaborated.{IsElaborated}
+use Rattle.rx_forms.specs.Steps.{AreFormable, AreNarrow}
+use Rattle.rx_proof.specs.declared.proof.Proof.{Proof}
+use Rattle.rx_proof.proofs.Exclusion.{accepts_sound}
+use Rattle.rx_prover.specs.Answers.{HasNoPoint}
+use Rattle.rx_layout.specs.declared.goal.Goal.{Goal}
+use Rattle.rx_layout.specs.Goals
+use Rattle.rx_layout.specs.Goals.{source, is_universal, IsGoal, MetBy, GoalHolds, AllGoalsHold}
+use Rattle.rx_layout.specs.QueryOf.{query_for}
+use Rattle.rx_layout.specs.Listed.{Among}
+use Rattle.rx_layout.proofs.Whole.{goals_point}
+use Rattle.rx_layout.proofs.Listing.{goals_are_listed}
+use Rattle.rx_layout.proofs.Holding.{all_hold}
+use Rattle.rx_checks.specs.declared.verdict.Evidence.{Evidence}
+use Rattle.rx_checks.specs.declared.verdict.Evidence.TheVariants.{Proofs, Found}
+use Rattle.rx_checks.specs.declared.verdict.Verdict.{Verdict}
+use Rattle.rx_checks.specs.declared.verdict.Verdict.TheVariants.{Passed, Failed, Undecided}
+use Rattle.rx_checks.specs.declared.report.Line.{Line}
+use Rattle.rx_checks.specs.Verdicts
+use Rattle.rx_checks.specs.Reports.{HasPassed, AllPassed}
+use Rattle.rx_checks.specs.Laws.{ReportsShowSoundness}
+
+at_place : (P : List ℕ → Type 0) (xs : List (List ℕ)) (p : List ℕ) (k : ℕ) → k < length xs → slice_index_or xs k p ≡ p → AllByRecursion P xs → P p
+at_place P [] p k h e all = absurd (omega (arith, h))
+at_place P (x ∷ xs) p zero h e all = subst P e all.0
+at_place P (x ∷ xs) p (suc k) h e all = at_place P xs p k (omega (arith, h)) e all.1
+
+-- what holds of each path of a list holds of one that is in it
+holds_of : (P : List ℕ → Type 0) (xs : List (List ℕ)) (p : List ℕ) → AllByRecursion P xs → Contains xs p → P p
+holds_of P xs p all h = at_place P xs p h.0 h.1 h.2 all
+
+-- the links of a path that is taken lead from one node to the other
+links_lead : (domains : List Domain) (m : Graph) (total : ℕ) (before : List Placed) (at : Node) (path : List ℕ) (fields : List Placed) (end : Node) → Leads domains m total before at path fields end → IsPath m at path end
+links_lead domains m total before at [] [] end h = h
+links_lead domains m total before at [] (p ∷ fields) end h = absurd h
+links_lead domains m total before at (i ∷ path) [] end h = absurd h
+links_lead domains m total before at (i ∷ path) (p ∷ fields) end h =
+    (h.0, h.1, h.2, subst (λ n. IsPath m n path end) (sym h.3.target) (links_lead domains m total _ (At p.field) path fields end h.4))
+
+module _ (domains : List Domain) (m : Graph) (el : IsElaborated domains m) (formable : AreFormable (limit_of domains m) m) (narrow : AreNarrow (limit_of domains m) m) (splits : ℕ) where
+  module _ (goal : Goal) where
+    abbrev IsEmpty : List ℕ → Type 0
+    IsEmpty path = HasNoPoint (query_for domains m goal path)
+
+    -- a closed proof leaves no point
+    all_empty : (paths : List (List ℕ)) (proofs : List Proof) → Verdicts.AreClosed domains m splits goal paths proofs → AllByRecursion IsEmpty paths
+    all_empty [] [] h = tt
+    all_empty [] (proof ∷ proofs) h = absurd h
+    all_empty (path ∷ paths) [] h = absurd h
+    all_empty (path ∷ paths) (proof ∷ proofs) h = (accepts_sound (query_for domains m goal path) proof h.0.closed.is_accepted, all_empty paths proofs h.1)
+
+    met_by_none : (paths : List (List ℕ)) → IsGoal domains m goal → ArePathsTo m (source goal) paths → AllByRecursion IsEmpty paths → (total : ℕ) (path : List ℕ) (fields : List Placed) → MetBy domains m goal total path fields → ⊥
+    met_by_none paths is are none total path fields met =
+        let found = goals_point domains m el formable narrow goal total path fields is met in
+        let here = are.all path (links_lead domains m total [] Start path fields (source goal) met.partial.leads) in
+        holds_of IsEmpty paths path none here found.0 found.1.satisfies
+
+    shown_holds : (b : Bool) (paths : List (List ℕ)) (evidence : Evidence) → IsGoal domains m goal → ArePathsTo m (source goal) paths → Verdicts.IsShownBy domains m splits goal b paths evidence → Goals.HoldsIf domains m b goal
+    shown_holds true paths (Proofs proofs) is are h = met_by_none paths is are (all_empty paths proofs.items h)
+    shown_holds true paths (Found path total numbers) is are h = absurd h
+    shown_holds false paths (Proofs proofs) is are h = absurd h
+    shown_holds false paths (Found path total numbers) is are h = (total, path, h.1.fields, h.1.met)
+
+    passed_holds : (verdict : Verdict) → IsGoal domains m goal → Verdicts.StandsFor domains m splits goal verdict → HasPassed verdict → GoalHolds domains m goal
+    passed_holds (Passed evidence) is h passed = shown_holds (is_universal goal) h.0 evidence is h.1 h.2
+    passed_holds (Failed evidence) is h passed = absurd passed
+    passed_holds (Undecided path tree) is h passed = absurd passed
+
+  listed_holds : (lines : List Line) (goal : Goal) → AllByRecursion (λ line. Verdicts.StandsFor domains m splits line.goal line.verdict) lines → AllPassed lines → IsGoal domains m goal → Among goal (map (λ line. line.goal) lines) → GoalHolds domains m goal
+  listed_holds [] goal stand passed is among = absurd among
+  listed_holds (line ∷ lines) goal stand passed is (inl e) =
+      subst (λ g. GoalHolds domains m g) e (passed_holds line.goal line.verdict (subst (λ g. IsGoal domains m g) (sym e) is) stand.0 passed.0)
+  listed_holds (line ∷ lines) goal stand passed is (inr among) = listed_holds lines goal stand.1 passed.1 is among
+
+pub show_soundness : (domains : List Domain) (m : Graph) → IsElaborated domains m → AreFormable (limit_of domains m) m → AreNarrow (limit_of domains m) m → ReportsShowSoundness domains m
+show_soundness domains m el formable narrow splits r h passed =
+    record { elaborated = el; holds = all_hold domains m all }
+  where
+    all : AllGoalsHold domains m
+    all goal is = listed_holds domains m el formable narrow splits r.lines.items goal h.stand passed is (subst (λ goals. Among goal goals) (sym h.goals) (goals_are_listed domains m el goal is))
