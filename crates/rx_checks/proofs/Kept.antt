@@ -41,9 +41,6 @@ pub all_listed : (P : Goal → Type 0) (goals : List Goal) → ((g : Goal) → A
 all_listed P [] h = tt
 all_listed P (g ∷ goals) h = (h g (inl refl), all_listed P goals (λ x a. h x (inr a)))
 
-pub few_paths : (domains : List Domain) (m : Graph) → IsElaborated domains m → (node : Node) → HasPathsUpTo m node 4096
-few_paths domains m el node = ?
-
 -- at most 4,096 paths and more than 4,096 paths are not both
 pub few_or_many : (m : Graph) (end : Node) (n : ℕ) → HasOneList m → HasPathsUpTo m end n → HasMorePathsTo m end n → ⊥
 few_or_many m end n one few many =

@@ -7,6 +7,7 @@ ghost use Rattle.rx_graph.specs.Graph.{domains_of, graph_of};
 ghost use Rattle.rx_checks.specs.Table.{node_at, HavePaths};
 
 use crate::fault::NoMemory;
+use rx_forms::paths_to_nodes_are_few;
 use rx_graph::{Message, Node, Path, PathFault, Spec, paths_make_one_list, paths_to};
 use std::alloc::Global;
 
@@ -52,6 +53,7 @@ fn paths_at(
     ensures { IfOk result (λ entry. ArePathsTo (graph_of message.now) node entry.paths.items) }
 {
     paths_make_one_list(message);
+    paths_to_nodes_are_few(spec, message);
     match paths_to(alloc, message, node) {
         Ok(paths) => Ok(NodePaths { paths }),
         Err(PathFault::NoMemory) => Err(NoMemory),

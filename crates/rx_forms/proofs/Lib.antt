@@ -1,10 +1,12 @@
 pub mod Along
+pub mod Asked
 pub mod Aspects
 pub mod Building
 pub mod Carrying
 pub mod Conditions
 pub mod Extension
 pub mod Facts
+pub mod Few
 pub mod Gathering
 pub mod Intervals
 pub mod Kept

@@ -2,6 +2,7 @@
 --   IsOut m node out     none, one or two links of the node, in their order
 --   KeepsLimit           each path from the start, with such links of its end, stays within the limit
 --   keeps_limit          the same, told by the list of all paths and links
+--   HasFewPaths          at most 4,096 paths lead to any node
 use Rattle.std.specs.Prelude.{◌≡◌, ◌<◌, ℕ, ◌+◌, Bool, true, false, not, List, [], ◌∷◌, ◌++◌, length, map, if◌then◌else◌}
 use Rattle.std.specs.List.{list_all}
 use Rattle.rx_types.specs.Domain.{Domain}
@@ -10,7 +11,7 @@ use Rattle.rx_graph.specs.declared.message.Node.TheVariants.{Start, At, Null}
 use Rattle.rx_graph.specs.declared.message.Field.{Field}
 use Rattle.rx_graph.specs.Graph.{Arrow, Graph}
 use Rattle.rx_graph.specs.Checks.{is_node}
-use Rattle.rx_graph.specs.Cycles.{IsLink, IsPath}
+use Rattle.rx_graph.specs.Cycles.{IsLink, IsPath, HasPathsUpTo}
 use Rattle.rx_graph.specs.Onward.{onward}
 use Rattle.rx_forms.specs.Gathered.{passes_limit}
 
@@ -62,3 +63,7 @@ keeps_limit domains m = list_all (keeps_limit_at domains m) (every_node m)
 -- what the lists tell of is so
 abbrev pub LimitIsKept : List Domain → Graph → Type 0
 LimitIsKept domains m = keeps_limit domains m ≡ true → KeepsLimit domains m
+
+-- at most 4,096 paths lead to any node
+abbrev pub HasFewPaths : Graph → Type 0
+HasFewPaths m = (node : Node) → HasPathsUpTo m node 4096

@@ -33,5 +33,5 @@ pub use laws::{
 };
 pub use linear::{Form, Linear};
 pub use number::number_form;
-pub use within::keeps_limit;
+pub use within::{keeps_limit, limit_is_kept, paths_to_nodes_are_few};
 pub use work::Work;

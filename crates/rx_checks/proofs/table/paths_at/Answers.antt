@@ -1,7 +1,7 @@
 use Rattle.std.proofs.Common.{arith}
-use Rattle.rx_graph.specs.Graph.{domains_of, graph_of}
+use Rattle.rx_graph.specs.Graph.{graph_of}
 use Rattle.rx_graph.proofs.Ways.{length-arrows}
-use Rattle.rx_checks.proofs.Kept.{few_or_many, few_paths}
+use Rattle.rx_checks.proofs.Kept.{few_or_many}
 use Rattle.rx_checks.proofs.table.paths_at.Goals as goal
 
 pub paths_to-requires-clause-few : goal.paths_to-requires-clause-few
@@ -9,5 +9,5 @@ paths_to-requires-clause-few c = omega (arith, length-arrows c.args.message.now.
 
 pub unreachable-requires : goal.unreachable-requires
 unreachable-requires c =
-    few_or_many (graph_of c.args.message.now) c.args.node 4096 c.paths_make_one_list.ensures (few_paths (domains_of c.args.spec.now) (graph_of c.args.message.now) c.requires c.args.node)
+    few_or_many (graph_of c.args.message.now) c.args.node 4096 c.paths_make_one_list.ensures (c.paths_to_nodes_are_few.ensures c.args.node)
     (c.in-Err-TooManyPaths.ensures.many c.in-Err-TooManyPaths.field-0-is)
