@@ -1,10 +1,10 @@
 -- The paths to the nodes of a message, one node after the other.
-use Rattle.std.proofs.Common.{◌≡◌, refl, sym, ap, subst, ◌∙◌, ℕ, zero, suc, ◌+◌, ◌<◌, ◌≤◌, arith, List, [], ◌∷◌, ◌++◌, length, length-append, get_or, inl, inr}
+use Rattle.std.proofs.Common.{◌≡◌, refl, sym, ap, subst, ◌∙◌, ℕ, zero, suc, ◌+◌, ◌<◌, arith, List, [], ◌∷◌, ◌++◌, length, length-append, get_or, inl, inr}
 use Rattle.std.specs.List.{AllByRecursion}
 use Rattle.rx_types.specs.Domain.{Domain}
 use Rattle.rx_graph.specs.declared.message.Node.{Node}
 use Rattle.rx_graph.specs.Graph.{Arrow, Graph}
-use Rattle.rx_graph.specs.Cycles.{IsPath, ArePathsTo, HasPathsUpTo, HasMorePathsTo}
+use Rattle.rx_graph.specs.Cycles.{ArePathsTo, HasPathsUpTo, HasMorePathsTo}
 use Rattle.rx_graph.specs.Elaborated.{IsElaborated, IsSource}
 use Rattle.rx_graph.specs.Laws.{HasOneList}
 use Rattle.rx_graph.specs.Checks.{IsNumbered}

@@ -1,20 +1,20 @@
 -- The numbers of the scalars of a path: how many they are, how small, and that they are those of evidence.
-use Rattle.std.proofs.Common.{◌≡◌, refl, sym, ap, subst, ◌∙◌, ℕ, zero, suc, ◌+◌, ◌<◌, ◌≤◌, ◌^◌, arith, List, [], ◌∷◌, ◌++◌, length, take, drop, get_or, map, ℤ, pos, Option, Some, None}
+use Rattle.std.proofs.Common.{◌≡◌, refl, sym, ap, subst, ◌∙◌, ℕ, zero, suc, ◌+◌, ◌<◌, ◌≤◌, ◌^◌, arith, List, [], ◌∷◌, ◌++◌, length, take, drop, get_or, ℤ, pos, Option, Some, None}
 use Rattle.std.specs.Prelude.{slice_get, slice_index_or, true, false}
 use Rattle.std.proofs.Math.Pow.{pow_mono}
 use Rattle.std.specs.List.{AllByRecursion}
-use Rattle.std.proofs.lemmas.List.{drop_more, length-take}
+use Rattle.std.proofs.lemmas.List.{length-take}
 use Rattle.rx_types.specs.declared.scalar.FieldType.{FieldType}
 use Rattle.rx_types.specs.declared.scalar.FieldType.TheVariants.{Scalar, Opaque, Sequence}
 use Rattle.rx_types.specs.declared.scalar.Literal.{Literal}
-use Rattle.rx_types.specs.Domain.{Domain, Integer, Enumeration, IsProper, IsNumberOf, IsLiteral, size_of}
-use Rattle.rx_types.specs.Environment.{Placed, in_message}
+use Rattle.rx_types.specs.Domain.{Domain, Integer, Enumeration, IsProper, IsNumberOf}
+use Rattle.rx_types.specs.Environment.{Placed}
 use Rattle.rx_graph.specs.declared.message.Field as field
 use Rattle.rx_graph.specs.declared.message.Node.{Node}
 use Rattle.rx_graph.specs.declared.message.Node.TheVariants.{Start, At}
 use Rattle.rx_graph.specs.Graph.{Arrow, Graph, type_of, scalar_of}
 use Rattle.rx_graph.specs.Elaborated.{IsElaborated, IsFieldType}
-use Rattle.rx_graph.specs.Paths.{Leads, HasNumber, IsPartial}
+use Rattle.rx_graph.specs.Paths.{Leads, HasNumber}
 use Rattle.rx_forms.specs.Carried
 use Rattle.rx_forms.specs.Carried.{number_if}
 use Rattle.rx_forms.specs.Steps

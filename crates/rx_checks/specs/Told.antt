@@ -6,7 +6,7 @@
 --   TellsNumbers path total numbers e    the evidence is this path with this length and these numbers
 --   IsFirstPoint paths found     no path is at a point, or this is the verdict by the first one, behind a path without a point
 --   scalar_in domains kind       the scalar type of a field of this kind, if it is a scalar
-use Rattle.std.specs.Prelude.{◌≡◌, ◌≢◌, ◌<◌, ◌^◌, ℕ, ℤ, pos, Bool, true, false, List, ◌∷◌, map, Option, Some, None, slice_get}
+use Rattle.std.specs.Prelude.{◌≡◌, ◌≢◌, ◌<◌, ℕ, ℤ, pos, Bool, true, false, List, ◌∷◌, map, Option, Some, None, slice_get}
 use Rattle.std.specs.List.{AllByRecursion}
 use Rattle.rx_types.specs.declared.scalar.FieldType.{FieldType}
 use Rattle.rx_types.specs.declared.scalar.FieldType.TheVariants.{Scalar, Opaque, Sequence}

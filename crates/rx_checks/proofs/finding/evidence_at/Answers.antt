@@ -4,7 +4,7 @@ use Rattle.rx_forms.specs.Steps.{links_on, scalars_on}
 use Rattle.rx_checks.specs.declared.verdict.Evidence.{Evidence}
 use Rattle.rx_checks.specs.Told.{IsEvidence, TellsNumbers}
 use Rattle.rx_checks.proofs.Judged.{if_ok}
-use Rattle.rx_checks.proofs.Numbered.{IsFront, front_of, front_total, front_numbers, front_evidence}
+use Rattle.rx_checks.proofs.Numbered.{front_of, front_total, front_numbers, front_evidence}
 use Rattle.rx_checks.proofs.finding.evidence_at.Goals as goal
 
 pub numbered_at-requires-clause-long : goal.numbered_at-requires-clause-long

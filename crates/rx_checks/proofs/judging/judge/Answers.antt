@@ -1,7 +1,7 @@
 use Rattle.std.proofs.Common.{subst, rules, ◌+◌, ◌-◌, length, take, drop, List, ◌∷◌, ℕ}
 use Rattle.rx_graph.specs.Graph.{domains_of, graph_of}
 use Rattle.rx_prover.specs.declared.answer.Answer.{Answer}
-use Rattle.rx_prover.specs.declared.answer.Answer.TheVariants.{NoPoint, Point, Undecided}
+use Rattle.rx_prover.specs.declared.answer.Answer.TheVariants.{Point, Undecided}
 use Rattle.rx_prover.specs.Answers.{AnswersReached}
 use Rattle.rx_layout.specs.QueryOf.{query_for}
 use Rattle.rx_checks.specs.declared.verdict.Verdict.{Verdict}
