@@ -1,3 +1,6 @@
 pub mod FirstOnes
 pub mod OneReport
 pub mod Soundness
+pub mod Kept
+pub mod Judged
+pub mod Numbered

@@ -18,6 +18,12 @@ impl<T: Drop> From<AllocFailed<T>> for NoMemory {
     }
 }
 
+impl From<rx_graph::NoMemory> for NoMemory {
+    fn from(_: rx_graph::NoMemory) -> Self {
+        NoMemory
+    }
+}
+
 impl From<rx_layout::NoMemory> for NoMemory {
     fn from(_: rx_layout::NoMemory) -> Self {
         NoMemory

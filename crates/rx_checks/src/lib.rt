@@ -2,10 +2,15 @@
 #![tactic(auto)]
 
 mod acceptance;
+mod asking;
 mod checking;
+mod counting;
 mod fault;
+mod finding;
+mod judging;
 mod laws;
 mod report;
+mod table;
 mod verdict;
 
 pub use acceptance::accepted;
