@@ -29,12 +29,12 @@ const FAULTS: [(&[u8], &[u8], &[u8]); 8] = [
     (
         b"package P is type U is unsigned 8; type M is message A : U then B if A <= 200 then null if A > 255; B : U; end message; end P;",
         b"P::M Taken A 2: Failed by 1 proofs of ",
-        b"13 passed, 1 failed, 0 undecided\n",
+        b"14 passed, 1 failed, 0 undecided\n",
     ),
     (
         b"package P is type U is unsigned 8; type M is message A : U then null then B if A = 0 and A = 1; B : U; end message; end P;",
         b"P::M Reached B: Failed by 1 proofs of ",
-        b"11 passed, 3 failed, 0 undecided\n",
+        b"12 passed, 3 failed, 0 undecided\n",
     ),
     (
         b"package P is type U is unsigned 8; type M is message A : U; B : Opaque with Size => A * 8 - 16; end message; end P;",

@@ -2,6 +2,7 @@ pub mod AnswerLemmas
 pub mod ClosureLemmas
 pub mod NameLemmas
 pub mod OperandLemmas
+pub mod ReadLemmas
 pub mod RequestLemmas
 pub mod StageLemmas
 pub mod WordLemmas

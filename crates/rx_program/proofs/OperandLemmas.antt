@@ -2,7 +2,8 @@
 use Rattle.std.proofs.Common.{◌≡◌, ℕ, ◌+◌, ◌<◌, ◌≤◌, Bool, true, false, List, [], ◌∷◌, length, map, drop, get_or, refl, sym, ap, ◌∙◌, subst, arith, Option, None, Some, if◌then◌else◌}
 use Rattle.std.specs.List.{AllByRecursion}
 use Rattle.std.proofs.lemmas.List.{at_drop_more, at_drop_all}
-use Rattle.rx_types.specs.Domain.{domain_of}
+use Rattle.std.specs.Prelude.{slice_get}
+use Rattle.rx_types.specs.Domain.{Domain, domain_of, boolean}
 use Rattle.rx_graph.specs.declared.message.Message.{Message}
 use Rattle.rx_graph.specs.declared.spec.Scalar as code
 use Rattle.rx_graph.specs.declared.spec.Spec.{Spec}
@@ -51,3 +52,7 @@ domains_same_in (x ∷ xs) = ap (λ l. domain_of x.kind ∷ l) (domains_same_in 
 pub domains_same : (s : Spec) → domains_in (spec_of s) ≡ domains_of s
 domains_same s = domains_same_in s.scalars.items
 
+
+-- the first type is that one
+pub first_same : {ds : List Domain} → slice_get ds 0 ≡ Some boolean → (d : Domain) → slice_get ds 0 ≡ Some d → d ≡ boolean
+first_same first d is = (let same : Some d ≡ Some boolean = sym is ∙ first in cc)

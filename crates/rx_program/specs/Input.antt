@@ -8,7 +8,7 @@ use Rattle.rx_graph.specs.Graph.{Graph}
 use Rattle.rx_graph.specs.Fits.{ReadsNothing, StopsAt}
 use Rattle.rx_decode.specs.Decoded.{IsJson}
 use Rattle.rx_program.specs.declared.answer.Answer.{Answer}
-use Rattle.rx_program.specs.declared.answer.Answer.TheVariants.{SourceFault, InputLimit, Input}
+use Rattle.rx_program.specs.declared.answer.Answer.TheVariants.{Checked, SourceFault, InputLimit, Input}
 use Rattle.rx_program.specs.declared.answer.Decoding.{Decoding}
 use Rattle.rx_program.specs.declared.answer.Decoding.TheVariants.{Json, Stuck}
 
@@ -37,6 +37,11 @@ IsOfInput _ = ⊥
 abbrev pub IsOfWhole : Answer → Type 0
 IsOfWhole (Input decoding) = Unit {0}
 IsOfWhole _ = ⊥
+
+-- the report of all messages of a package
+abbrev pub IsOfAll : Answer → Type 0
+IsOfAll (Checked reported) = Unit {0}
+IsOfAll _ = ⊥
 
 -- what is left is answered by this
 abbrev pub IsReadAs : List Domain → Graph → List ℕ → Answer → Type 0

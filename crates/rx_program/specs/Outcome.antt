@@ -24,6 +24,10 @@ use Rattle.rx_program.specs.Answers.{Answers}
 abbrev pub status_of_report : Reported → Status
 status_of_report r = if r.failed == 0 then (if r.undecided == 0 then Done else Undecided) else NotAccepted
 
+-- the same where some check did not pass
+abbrev pub status_of_rejected : Reported → Status
+status_of_rejected r = if r.failed == 0 then Undecided else NotAccepted
+
 abbrev pub status_of_decoding : Decoding → Status
 status_of_decoding (Json text) = Done
 status_of_decoding (Stuck reason field) = InputRefused
@@ -40,7 +44,7 @@ status_of (Unserved file unserved) = Specification
 status_of (Broken file breach) = Specification
 status_of (NoMessage name message) = Specification
 status_of (Checked reported) = status_of_report reported
-status_of (Rejected reported) = status_of_report reported
+status_of (Rejected reported) = status_of_rejected reported
 status_of SourceFault = SourceStatus
 status_of InputLimit = Limit
 status_of (Input decoding) = status_of_decoding decoding

@@ -4,7 +4,7 @@ ghost use Rattle.std.specs.Io.KnownBytes.{Appends};
 ghost use Rattle.rx_io.specs.Faults.{HasRisen};
 ghost use Rattle.std.specs.Str.{IsAscii};
 ghost use Rattle.rx_program.specs.Refusals.{number_of, label_of, place_text, refusal_text, rule_name, breach_text};
-ghost use Rattle.rx_program.specs.Outcome.{status_of, file_of, refused_text, unsupported_text, broken_text, reason_name, name_text, stuck_text, status_of_report, status_of_decoding, IsText, IsShown, Prints};
+ghost use Rattle.rx_program.specs.Outcome.{status_of, file_of, refused_text, unsupported_text, broken_text, reason_name, name_text, stuck_text, status_of_report, status_of_rejected, status_of_decoding, IsText, IsShown, Prints};
 
 use crate::answer::{Answer, Decoding};
 use crate::fault::NoMemory;
@@ -249,6 +249,16 @@ fn status_of_report(reported: &Reported) -> Status
     Status::Done
 }
 
+// The same where some check did not pass.
+fn status_of_rejected(reported: &Reported) -> Status
+    ensures { result ≡ status_of_rejected reported.now }
+{
+    if reported.failed != 0 {
+        return Status::NotAccepted;
+    }
+    Status::Undecided
+}
+
 // The status of what a buffer is.
 fn status_of_decoding(decoding: &Decoding) -> Status
     ensures { result ≡ status_of_decoding decoding.now }
@@ -274,7 +284,7 @@ fn status_of(answer: &Answer) -> Status
         Answer::Broken(_, _) => Status::Specification,
         Answer::NoMessage(_, _) => Status::Specification,
         Answer::Checked(reported) => status_of_report(reported),
-        Answer::Rejected(reported) => status_of_report(reported),
+        Answer::Rejected(reported) => status_of_rejected(reported),
         Answer::SourceFault => Status::SourceFault,
         Answer::InputLimit => Status::Limit,
         Answer::Input(decoding) => status_of_decoding(decoding),

@@ -1,5 +1,5 @@
 //! What packages that were read answer.
-ghost use Rattle.std.specs.Prelude.{◌≡◌, ◌<◌, ◌≤◌, ℕ, List, length, map, slice_get, Some, IfOk, IfSome, Ok, Err};
+ghost use Rattle.std.specs.Prelude.{◌≡◌, ◌<◌, ◌≤◌, ℕ, List, length, map, slice_get, Some, None, IfOk, IfSome, Ok, Err};
 ghost use Rattle.std.specs.List.{AllByRecursion};
 ghost use Rattle.std.specs.Io.KnownBytes.{IsAtEnd};
 ghost use Rattle.rx_io.specs.Faults.{HasRisen};
@@ -12,7 +12,7 @@ ghost use Rattle.rx_program.specs.Words.{message_asked};
 ghost use Rattle.rx_program.specs.Asked.{does_of, ask_of};
 ghost use Rattle.rx_program.specs.Closure.{ArePaired};
 ghost use Rattle.rx_program.specs.Stage.{of_packages, AreServed};
-ghost use Rattle.rx_program.specs.Input.{IsOfWhole};
+ghost use Rattle.rx_program.specs.Input.{IsOfAll, IsOfWhole};
 ghost use Rattle.rx_program.specs.Request.{Request, Means, Finds, AnswersTo, request_of, IsOfRequest};
 
 use crate::answer::Answer;
@@ -48,6 +48,7 @@ fn answer_input<I: Source>(
     ensures kind { IfOk result IsOfRequest }
     ensures at_end { IfOk result (λ answer. IsOfWhole answer → IsAtEnd (I.left input.new)) }
     ensures source_fault { result ≡ Ok Answer.SourceFault → HasRisen (I.faults input.old) (I.faults input.new) }
+    ensures one { IfOk result (λ answer. IsOfAll answer → ⊥) }
 {
     reports_show_soundness(spec, message);
     match &ask.does {
@@ -73,6 +74,7 @@ fn answer_message<I: Source>(
     ensures kind { IfOk result IsOfRequest }
     ensures at_end { IfOk result (λ answer. IsOfWhole answer → IsAtEnd (I.left input.new)) }
     ensures source_fault { result ≡ Ok Answer.SourceFault → HasRisen (I.faults input.old) (I.faults input.new) }
+    ensures one { IfOk result (λ answer. IsOfAll answer → ⊥) }
 {
     let examined = examine(alloc, spec, message, ask.splits)?;
     match examined {
@@ -99,6 +101,7 @@ fn answer_named<I: Source>(
     ensures kind { IfOk result IsOfRequest }
     ensures at_end { IfOk result (λ answer. IsOfWhole answer → IsAtEnd (I.left input.new)) }
     ensures source_fault { result ≡ Ok Answer.SourceFault → HasRisen (I.faults input.old) (I.faults input.new) }
+    ensures one { IfOk result (λ answer. IsOfAll answer → ⊥) }
 {
     match find_message(spec.messages.as_slice(), &ask.name, name) {
         Some(message) => answer_message(alloc, ask, packages, spec, message, input),
@@ -108,7 +111,8 @@ fn answer_named<I: Source>(
 
 // The answer where no message has the name.
 fn no_message(alloc: Global, ask: &Ask, name: &Name) -> Result<Answer, NoMemory>
-    ensures { IfOk result (λ answer. answer ≡ Answer.NoMessage ask.now.name name.now) }
+    ensures answer { IfOk result (λ answer. answer ≡ Answer.NoMessage ask.now.name name.now) }
+    ensures one { IfOk result (λ answer. IsOfAll answer → ⊥) }
 {
     let owner = ask.name.copy(alloc)?;
     let name = name.copy(alloc)?;
@@ -131,6 +135,7 @@ fn answer_spec<I: Source>(
     ensures kind { IfOk result IsOfRequest }
     ensures at_end { IfOk result (λ answer. IsOfWhole answer → IsAtEnd (I.left input.new)) }
     ensures source_fault { result ≡ Ok Answer.SourceFault → HasRisen (I.faults input.old) (I.faults input.new) }
+    ensures all { IfOk result (λ answer. IsOfAll answer → message_asked (does_of ask.now.does) ≡ None) }
     ensures untouched { message_asked (does_of ask.now.does) ≡ None → input.new ≡ input.old }
 {
     match &ask.does {
@@ -149,6 +154,7 @@ fn unserved(alloc: Global, asked: &[Name], found: Found) -> Result<Answer, NoMem
     ensures kind { IfOk result IsOfRequest }
     ensures not_input { IfOk result (λ answer. IsOfWhole answer → ⊥) }
     ensures not_source { result ≡ Ok Answer.SourceFault → ⊥ }
+    ensures one { IfOk result (λ answer. IsOfAll answer → ⊥) }
 {
     let file = asked[found.package].copy(alloc)?;
     Ok(Answer::Unserved(file, found.unserved))
@@ -161,6 +167,7 @@ fn broken(alloc: Global, asked: &[Name], told: Told) -> Result<Answer, NoMemory>
     ensures kind { IfOk result IsOfRequest }
     ensures not_input { IfOk result (λ answer. IsOfWhole answer → ⊥) }
     ensures not_source { result ≡ Ok Answer.SourceFault → ⊥ }
+    ensures one { IfOk result (λ answer. IsOfAll answer → ⊥) }
 {
     let file = asked[told.package].copy(alloc)?;
     Ok(Answer::Broken(file, told.refusal))
@@ -179,6 +186,7 @@ pub fn answer_packages<I: Source>(
     ensures kind { IfOk result IsOfRequest }
     ensures at_end { IfOk result (λ answer. IsOfWhole answer → IsAtEnd (I.left input.new)) }
     ensures source_fault { result ≡ Ok Answer.SourceFault → HasRisen (I.faults input.old) (I.faults input.new) }
+    ensures all { IfOk result (λ answer. IsOfAll answer → message_asked (does_of ask.now.does) ≡ None) }
     ensures untouched { message_asked (does_of ask.now.does) ≡ None → input.new ≡ input.old }
 {
     let asked = packages.asked.as_slice();

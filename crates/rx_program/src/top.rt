@@ -1,12 +1,12 @@
 //! The top call.
-ghost use Rattle.std.specs.Prelude.{◌≡◌, ◌≤◌, ℕ, List, map, Some, IfOk, IfSome, Ok, string_bytes};
+ghost use Rattle.std.specs.Prelude.{◌≡◌, ◌≤◌, ℕ, List, map, Some, None, IfOk, IfSome, Ok, string_bytes};
 ghost use Rattle.std.specs.Io.KnownBytes.{Appends, IsAtEnd};
 ghost use Rattle.rx_io.specs.Faults.{HasRisen};
 ghost use Rattle.rx_io.specs.Shelf.{Texts, SameTexts};
 ghost use Rattle.rx_program.specs.Words.{message_asked, asked_for, HaveNoForm, HaveInput, HaveNoInput};
 ghost use Rattle.rx_program.specs.Asked.{does_of, ask_of};
 ghost use Rattle.rx_program.specs.Stop.{Stops};
-ghost use Rattle.rx_program.specs.Input.{IsOfWhole};
+ghost use Rattle.rx_program.specs.Input.{IsOfAll, IsOfWhole};
 ghost use Rattle.rx_program.specs.Answers.{Answers};
 ghost use Rattle.rx_program.specs.Outcome.{Outcome, MayRefuseWords, ReadsAll};
 
@@ -27,6 +27,7 @@ fn stopped(name: Name, stop: Stop) -> Result<Answer, NoMemory>
     ensures not_usage { result ≡ Ok Answer.Usage → ⊥ }
     ensures not_input { IfOk result (λ answer. IsOfWhole answer → ⊥) }
     ensures not_source { result ≡ Ok Answer.SourceFault → ⊥ }
+    ensures one { IfOk result (λ answer. IsOfAll answer → ⊥) }
     ensures fault { result ≡ Ok Answer.ShelfFault → stop ≡ Stop.Fault }
 {
     match stop {
@@ -54,6 +55,7 @@ fn answer_ask<H: Shelf, I: Source>(
     ensures at_end { IfOk result (λ answer. IsOfWhole answer → IsAtEnd (I.left input.new)) }
     ensures shelf_fault { result ≡ Ok Answer.ShelfFault → HasRisen (H.faults shelf.old) (H.faults shelf.new) }
     ensures source_fault { result ≡ Ok Answer.SourceFault → HasRisen (I.faults input.old) (I.faults input.new) }
+    ensures all { IfOk result (λ answer. IsOfAll answer → message_asked (does_of ask.does) ≡ None) }
     ensures untouched { message_asked (does_of ask.does) ≡ None → input.new ≡ input.old }
 {
     match close(alloc, &ask.name, shelf) {
@@ -76,6 +78,7 @@ fn answer<H: Shelf, I: Source>(
     ensures at_end { IfOk result (λ answer. IsOfWhole answer → IsAtEnd (I.left input.new)) }
     ensures shelf_fault { result ≡ Ok Answer.ShelfFault → HasRisen (H.faults shelf.old) (H.faults shelf.new) }
     ensures source_fault { result ≡ Ok Answer.SourceFault → HasRisen (I.faults input.old) (I.faults input.new) }
+    ensures all { IfOk result (λ answer. IsOfAll answer → HaveNoInput (map string_bytes words.now)) }
     ensures untouched { HaveNoInput (map string_bytes words.now) → input.new ≡ input.old }
 {
     match read_words(alloc, words)? {
