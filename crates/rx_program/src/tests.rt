@@ -180,7 +180,7 @@ fn serves_enumerations_conditions_and_bytes(rt: HostRuntime) -> Result<(), Fail>
 #[test]
 fn refuses_what_breaks_a_rule_or_is_not_served(rt: HostRuntime) -> Result<(), Fail> {
     // the text of P, what is written
-    let cases: [(&[u8], &[u8]); 10] = [
+    let cases: [(&[u8], &[u8]); 8] = [
         (
             b"package P is type A is unsigned 64; end P;",
             b"p.rflx:1:19: 20 BadRange A\n",
@@ -210,16 +210,8 @@ fn refuses_what_breaks_a_rule_or_is_not_served(rt: HostRuntime) -> Result<(), Fa
             b"p.rflx:1:36: 7 Unsupported new\n",
         ),
         (
-            b"package P is type A is unsigned 8; type M is message X : A then Y with First => X'First; Y : A; end message; end P;",
-            b"p.rflx:1:72: 7 Unsupported First\n",
-        ),
-        (
-            b"package P is type A is unsigned 8; type M is message X : A then Y if X = 1 then null; Y : A; end message; end P;",
-            b"p.rflx:1:81: 7 Unsupported Branching\n",
-        ),
-        (
-            b"package P is type A is unsigned 7; type M is message Y : A; end message; end P;",
-            b"p.rflx:1:41: 7 Unsupported Unchecked\n",
+            b"package P is type A is unsigned 8; type M is message X : A then Y with First => X'Last; Y : A; end message; end P;",
+            b"p.rflx:1:72: 18 FirstForm First\n",
         ),
     ];
     for (text, written) in cases {
