@@ -7,6 +7,7 @@ use Rattle.rx_graph.specs.Graph.{Graph}
 use Rattle.rx_graph.specs.Fits.{Assigned, ReadsAs, length_of}
 use Rattle.rx_values.specs.Reading.{value_of, Refusal}
 use Rattle.rx_values.specs.Reading.{NotJson as NoJson, NotObject as NoObject, UnknownField as NoField, BadValue as NoValue, Duplicate as Twice}
+use Rattle.rx_serial.specs.Laws.{AreBytes}
 use Rattle.rx_serial.specs.Unfit.{IsUnfit}
 use Rattle.rx_serial.specs.declared.fault.WriteFault.{WriteFault}
 use Rattle.rx_serial.specs.declared.fault.WriteFault.TheVariants as fault
@@ -24,7 +25,7 @@ module _ (domains : List Domain) (m : Graph) where
 
   -- the buffer that reads as the valuation; or why the text is no valuation; or why the valuation fits no path
   abbrev pub IsEncoded : List ℕ → Encoded → Type 0
-  IsEncoded text (Bytes bytes) = IfValued text (ReadsAs domains m bytes.items)
+  IsEncoded text (Bytes bytes) = AreBytes bytes.items × IfValued text (ReadsAs domains m bytes.items)
   IsEncoded text NotJson = IsRefused text NoJson
   IsEncoded text NotObject = IsRefused text NoObject
   IsEncoded text (UnknownField key) = IsRefused text (NoField key.items)

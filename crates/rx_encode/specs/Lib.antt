@@ -1,1 +1,3 @@
 pub mod Encoded
+pub mod Laws
+pub mod Walks

@@ -4,9 +4,11 @@
 mod encoding;
 mod fault;
 mod keys;
-
+mod laws;
+#[cfg(test)]
+mod tests;
 
 pub use encoding::{Encoded, encode};
 pub use fault::NoMemory;
 pub use keys::key_text;
-
+pub use laws::{encoded_reads, one_text_answer, printed_is_encoded};

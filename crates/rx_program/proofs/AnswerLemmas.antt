@@ -15,15 +15,15 @@ use Rattle.rx_program.specs.declared.answer.Answer.{Answer}
 use Rattle.rx_program.specs.declared.answer.Answer.TheVariants as answer
 use Rattle.rx_program.specs.declared.words.Ask as code
 use Rattle.rx_program.specs.declared.words.Does as does
-use Rattle.rx_program.specs.declared.words.Does.TheVariants.{Checks}
+use Rattle.rx_program.specs.declared.words.Does.TheVariants.{Checks, Decodes, Encodes}
 use Rattle.rx_program.specs.declared.closure.Packages.{Packages}
 use Rattle.rx_program.specs.declared.closure.Stop.{Stop}
-use Rattle.rx_program.specs.Words.{asked_for, message_asked}
+use Rattle.rx_program.specs.Words.{Does, asked_for, message_asked}
 use Rattle.rx_program.specs.Asked.{ask_of, does_of}
 use Rattle.rx_program.specs.Closure.{IsClosure}
 use Rattle.rx_program.specs.Stop.{Stops}
-use Rattle.rx_program.specs.Input.{IsReadAs}
-use Rattle.rx_program.specs.Request.{Request, Means, Finds, Serves, AnswersTo, request_of}
+use Rattle.rx_program.specs.Input.{IsReadAs, IsWrittenAs}
+use Rattle.rx_program.specs.Request.{Request, Means, Finds, Serves, IsTooLong, AnswersTo, request_of}
 use Rattle.rx_program.specs.Answers.{Asks, Answers}
 use Rattle.rx_program.specs.Outcome.{Prints, Outcome}
 use Rattle.rx_program.proofs.OperandLemmas.{domains_same}
@@ -46,28 +46,53 @@ module _ (ask : code.Ask) (p : Packages) (spec : Spec) (m : Graph) where
   serves_by : Finds request (spec_of spec) m → Passes (domains_of spec) ask.splits m → Serves request (spec_of spec) m
   serves_by finds passes = record { finds = finds; passes = subst (λ (ds : List Domain). Passes ds ask.splits m) (sym (domains_same spec)) passes }
 
-  read_answers : (left : List ℕ) (a : Answer) → Serves request (spec_of spec) m → IsReadAs (domains_in (spec_of spec)) m left a → AnswersTo request left a
-  read_answers left answer.Usage serves read = absurd read
-  read_answers left answer.ShelfFault serves read = absurd read
-  read_answers left (answer.NoPackage n) serves read = absurd read
-  read_answers left (answer.TextLimit n) serves read = absurd read
-  read_answers left (answer.Refused n x) serves read = absurd read
-  read_answers left answer.PackageLimit serves read = absurd read
-  read_answers left (answer.Unserved n x) serves read = absurd read
-  read_answers left (answer.Broken n x) serves read = absurd read
-  read_answers left (answer.NoMessage n x) serves read = absurd read
-  read_answers left (answer.Checked r) serves read = absurd read
-  read_answers left (answer.Rejected r) serves read = absurd read
-  read_answers left answer.SourceFault serves read = (spec_of spec, m, serves)
-  read_answers left answer.InputLimit serves read = ((spec_of spec, m, serves), read)
-  read_answers left (answer.Input decoding) serves read = (spec_of spec, m, serves, read.0, read.1)
+  read_answers : (name left : List ℕ) (a : Answer) → does_of ask.does ≡ does_of (Decodes name) → Serves request (spec_of spec) m → IsReadAs (domains_in (spec_of spec)) m left a → AnswersTo request left a
+  read_answers name left answer.Usage is serves read = absurd read
+  read_answers name left answer.ShelfFault is serves read = absurd read
+  read_answers name left (answer.NoPackage n) is serves read = absurd read
+  read_answers name left (answer.TextLimit n) is serves read = absurd read
+  read_answers name left (answer.Refused n x) is serves read = absurd read
+  read_answers name left answer.PackageLimit is serves read = absurd read
+  read_answers name left (answer.Unserved n x) is serves read = absurd read
+  read_answers name left (answer.Broken n x) is serves read = absurd read
+  read_answers name left (answer.NoMessage n x) is serves read = absurd read
+  read_answers name left (answer.Checked r) is serves read = absurd read
+  read_answers name left (answer.Rejected r) is serves read = absurd read
+  read_answers name left answer.SourceFault is serves read = (spec_of spec, m, serves)
+  read_answers name left answer.InputLimit is serves read = (spec_of spec, m, serves, subst (λ (d : Does). IsTooLong request d (spec_of spec) m left) (sym is) read)
+  read_answers name left (answer.Input decoding) is serves read = (spec_of spec, m, name, serves, is, read.0, read.1)
+  read_answers name left (answer.Output encoding) is serves read = absurd read
 
-  -- what the input is of the message
-  pub answers_read : {E : Type 0} (input : Option (List ℕ)) (res : Result Answer E) → Finds request (spec_of spec) m → Passes (domains_of spec) ask.splits m
+  written_answers : (name left : List ℕ) (a : Answer) → does_of ask.does ≡ does_of (Encodes name) → Serves request (spec_of spec) m → IsWrittenAs (domains_in (spec_of spec)) m left a → AnswersTo request left a
+  written_answers name left answer.Usage is serves read = absurd read
+  written_answers name left answer.ShelfFault is serves read = absurd read
+  written_answers name left (answer.NoPackage n) is serves read = absurd read
+  written_answers name left (answer.TextLimit n) is serves read = absurd read
+  written_answers name left (answer.Refused n x) is serves read = absurd read
+  written_answers name left answer.PackageLimit is serves read = absurd read
+  written_answers name left (answer.Unserved n x) is serves read = absurd read
+  written_answers name left (answer.Broken n x) is serves read = absurd read
+  written_answers name left (answer.NoMessage n x) is serves read = absurd read
+  written_answers name left (answer.Checked r) is serves read = absurd read
+  written_answers name left (answer.Rejected r) is serves read = absurd read
+  written_answers name left answer.SourceFault is serves read = (spec_of spec, m, serves)
+  written_answers name left answer.InputLimit is serves read = (spec_of spec, m, serves, subst (λ (d : Does). IsTooLong request d (spec_of spec) m left) (sym is) read)
+  written_answers name left (answer.Input decoding) is serves read = absurd read
+  written_answers name left (answer.Output encoding) is serves read = (spec_of spec, m, name, serves, is, read.0, read.1)
+
+  -- what the input is of a message, where it is decoded
+  pub answers_read : {E : Type 0} (input : Option (List ℕ)) (name : List ℕ) (res : Result Answer E) → Finds request (spec_of spec) m → Passes (domains_of spec) ask.splits m → does_of ask.does ≡ does_of (Decodes name)
       → IfOk res (λ a. IfSome input (λ left. IsReadAs (domains_of spec) m left a)) → IfOk res (λ a. IfSome input (λ left. AnswersTo request left a))
-  answers_read input (Err e) finds passes read = tt
-  answers_read None (Ok a) finds passes read = tt
-  answers_read (Some left) (Ok a) finds passes read = read_answers left a (serves_by finds passes) (subst (λ (ds : List Domain). IsReadAs ds m left a) (sym (domains_same spec)) read)
+  answers_read input name (Err e) finds passes is read = tt
+  answers_read None name (Ok a) finds passes is read = tt
+  answers_read (Some left) name (Ok a) finds passes is read = read_answers name left a is (serves_by finds passes) (subst (λ (ds : List Domain). IsReadAs ds m left a) (sym (domains_same spec)) read)
+
+  -- and where it is encoded
+  pub answers_written : {E : Type 0} (input : Option (List ℕ)) (name : List ℕ) (res : Result Answer E) → Finds request (spec_of spec) m → Passes (domains_of spec) ask.splits m → does_of ask.does ≡ does_of (Encodes name)
+      → IfOk res (λ a. IfSome input (λ left. IsWrittenAs (domains_of spec) m left a)) → IfOk res (λ a. IfSome input (λ left. AnswersTo request left a))
+  answers_written input name (Err e) finds passes is written = tt
+  answers_written None name (Ok a) finds passes is written = tt
+  answers_written (Some left) name (Ok a) finds passes is written = written_answers name left a is (serves_by finds passes) (subst (λ (ds : List Domain). IsWrittenAs ds m left a) (sym (domains_same spec)) written)
 
   -- some check of the message did not pass
   pub answers_rejected : (input : Option (List ℕ)) (reported : Reported) → Finds request (spec_of spec) m → IsReported (domains_of spec) ask.splits (m ∷ []) reported → HasOpen reported
@@ -109,6 +134,7 @@ answers_in words texts left r (answer.Rejected reported) asks is = (r, asks, is)
 answers_in words texts left r answer.SourceFault asks is = (r, asks, is)
 answers_in words texts left r answer.InputLimit asks is = (r, asks, is)
 answers_in words texts left r (answer.Input decoding) asks is = (r, asks, is)
+answers_in words texts left r (answer.Output encoding) asks is = (r, asks, is)
 
 -- the answer of the packages that were read, over what the shelf tells
 pub answered : {E : Type 0} (told : Option Texts) (input : Option (List ℕ)) (ask : code.Ask) (p : Packages) (res : Result Answer E) → IfSome told (λ texts. IsClosure texts ask.name p.asked.items p.trees.items)

@@ -3,7 +3,7 @@ use Rattle.std.proofs.Common.{◌≡◌, ℕ, ◌⊎◌, inl, inr, true, false, 
 use Rattle.rx_io.specs.Shelf.{Texts}
 use Rattle.rx_syntax.specs.declared.tree.PackageTree.{PackageTree}
 use Rattle.rx_program.specs.declared.answer.Answer.{Answer}
-use Rattle.rx_program.specs.declared.answer.Answer.TheVariants.{Usage, ShelfFault, NoPackage, TextLimit, Refused, PackageLimit, Unserved, Broken, NoMessage, Checked, Rejected, SourceFault, InputLimit, Input}
+use Rattle.rx_program.specs.declared.answer.Answer.TheVariants.{Usage, ShelfFault, NoPackage, TextLimit, Refused, PackageLimit, Unserved, Broken, NoMessage, Checked, Rejected, SourceFault, InputLimit, Input, Output}
 use Rattle.rx_program.specs.declared.refusal.Refusal.{Refusal}
 use Rattle.rx_program.specs.Words.{Ask, asked_for, HaveNoForm}
 use Rattle.rx_program.specs.Closure.{HasNone, HasLong, HasRefused, IsClosure, Reaches, IsCrowded, begins, withs_of}
@@ -112,6 +112,7 @@ ended words texts input ask (Rejected reported) is end answers = absurd end
 ended words texts input ask SourceFault is end answers = absurd end
 ended words texts input ask InputLimit is end answers = absurd end
 ended words texts input ask (Input decoding) is end answers = absurd end
+ended words texts input ask (Output encoding) is end answers = absurd end
 
 -- any other answer but a fault is so, too, or all packages are read
 ended_or_read : (words : List (List ℕ)) (texts : Texts) (input : List ℕ) (ask : Ask) (a : Answer) → asked_for words ≡ Some ask → is_fault a ≡ false → Answers words texts input a → IsOfWalk texts ask.name a ⊎ IsRead texts ask.name
@@ -129,6 +130,7 @@ ended_or_read words texts input ask (Rejected reported) is sound answers = inr (
 ended_or_read words texts input ask SourceFault is sound answers = inr (read_of words texts ask answers.0 is answers.1)
 ended_or_read words texts input ask InputLimit is sound answers = inr (read_of words texts ask answers.0 is answers.1)
 ended_or_read words texts input ask (Input decoding) is sound answers = inr (read_of words texts ask answers.0 is answers.1)
+ended_or_read words texts input ask (Output encoding) is sound answers = inr (read_of words texts ask answers.0 is answers.1)
 
 -- the words of an answer ask for something, or have no form
 abbrev HaveForm : List (List ℕ) → Type 0
@@ -149,6 +151,7 @@ words_of words texts input (Rejected reported) answers = inr (answers.0.ask, ans
 words_of words texts input SourceFault answers = inr (answers.0.ask, answers.1.words_are)
 words_of words texts input InputLimit answers = inr (answers.0.ask, answers.1.words_are)
 words_of words texts input (Input decoding) answers = inr (answers.0.ask, answers.1.words_are)
+words_of words texts input (Output encoding) answers = inr (answers.0.ask, answers.1.words_are)
 
 pub one_end_lem : (words : List (List ℕ)) (texts : Texts) (input : List ℕ) (a b : Answer) → IsEnd a → is_fault b ≡ false → Answers words texts input a → Answers words texts input b → a ≡ b
 one_end_lem words texts input a b end sound answers answers' =

@@ -1,5 +1,5 @@
 -- The packages of a request and an input have one answer.
-use Rattle.std.proofs.Common.{◌≡◌, ℕ, ◌<◌, ◌≤◌, true, false, List, [], ◌∷◌, length, refl, sym, ap, ◌∙◌, subst, arith, Option, Some, None, Result, Ok, Err}
+use Rattle.std.proofs.Common.{◌≡◌, ℕ, ◌<◌, ◌≤◌, inl, inr, true, false, List, [], ◌∷◌, length, refl, sym, ap, ◌∙◌, subst, arith, Option, Some, None, Result, Ok, Err}
 use Rattle.std.specs.Prelude.{slice_get}
 use Rattle.rx_syntax.specs.declared.tree.PackageTree.{PackageTree}
 use Rattle.rx_types.specs.Domain.{Domain}
@@ -22,11 +22,11 @@ use Rattle.rx_spec.specs.Elaboration.{elaborated}
 use Rattle.rx_spec.specs.Laws.{IsSoundSpec, domains_in}
 use Rattle.rx_spec.proofs.Elaborating.{elaboration_is_sound}
 use Rattle.rx_spec.specs.declared.fault.Told.{Told}
-use Rattle.rx_program.specs.Words.{Checks, message_asked}
+use Rattle.rx_program.specs.Words.{Does, Checks, Decodes, Encodes, message_asked}
 use Rattle.rx_program.specs.Stage.{of_packages}
 use Rattle.rx_program.specs.Operand.{message_in}
-use Rattle.rx_program.specs.Input.{input_limit, name_if_any, DecodesTo}
-use Rattle.rx_program.specs.Request.{Request, TellsForm, TellsRule, Means, Lacks, Finds, ReportsAll, AnswersTo}
+use Rattle.rx_program.specs.Input.{input_limit, name_if_any, DecodesTo, EncodesTo}
+use Rattle.rx_program.specs.Request.{Request, TellsForm, TellsRule, Means, Lacks, Finds, ReportsAll, IsTooLong, AnswersTo}
 use Rattle.rx_program.specs.Laws.{is_fault, IsSame, IsSameReport}
 use Rattle.rx_program.proofs.OperandLemmas.{found_has}
 use Rattle.rx_program.proofs.OneReported.{reported_same, passes_not_open}
@@ -34,8 +34,26 @@ use Rattle.rx_program.specs.declared.stage.Unserved as stage
 use Rattle.rx_program.specs.declared.stage.Found.{Found}
 use Rattle.rx_program.specs.declared.answer.Decoding.{Decoding}
 use Rattle.rx_program.specs.declared.answer.Decoding.TheVariants.{Json, Stuck}
+use Rattle.std.specs.Prelude.{codes, ◌++◌}
+use Rattle.rx_graph.specs.Laws.{FitsHaveLength}
+use Rattle.rx_graph.specs.Paths.{Exclusive}
+use Rattle.rx_graph.proofs.Lengths.{length_fits}
+use Rattle.rx_values.specs.Reading.{NotJson as NoJson, NotObject as NoObject, UnknownField as NoField, BadValue as NoValue, Duplicate as Twice}
+use Rattle.rx_serial.specs.declared.fault.WriteFault.TheVariants as fault
+use Rattle.rx_serial.specs.Laws.{NoneFits, HasOneRefusal, HasOneBuffer}
+use Rattle.rx_serial.proofs.OneRefusal.{none_fits, one_refusal}
+use Rattle.rx_serial.proofs.OneBuffer.{one_buffer}
+use Rattle.rx_encode.specs.Encoded.{IsEncoded}
+use Rattle.rx_encode.specs.declared.encoding.Encoded.{Encoded}
+use Rattle.rx_encode.specs.declared.encoding.Encoded.TheVariants as encoded
+use Rattle.rx_encode.proofs.OneAnswer.{Code, Refused as Unvalued, Held, Long, Unfits, code, coded, one_code}
+use Rattle.rx_program.specs.Outcome.{line, name_text, unfit_name, key_line, encoding_text, status_of_encoding}
+use Rattle.rx_program.specs.declared.status.Status.{Status}
+use Rattle.rx_program.specs.declared.status.Status.TheVariants.{Done, InputRefused}
+use Rattle.rx_program.specs.declared.answer.Encoding.{Encoding}
+use Rattle.rx_program.specs.declared.answer.Encoding.TheVariants as encoding
 use Rattle.rx_program.specs.declared.answer.Answer.{Answer}
-use Rattle.rx_program.specs.declared.answer.Answer.TheVariants.{Usage, ShelfFault, NoPackage, TextLimit, Refused, PackageLimit, Unserved, Broken, NoMessage, Checked, Rejected, SourceFault, InputLimit, Input}
+use Rattle.rx_program.specs.declared.answer.Answer.TheVariants.{Usage, ShelfFault, NoPackage, TextLimit, Refused, PackageLimit, Unserved, Broken, NoMessage, Checked, Rejected, SourceFault, InputLimit, Input, Output}
 
 same_refl : (a : Answer) → IsSame a a
 same_refl Usage = refl
@@ -53,6 +71,7 @@ same_refl SourceFault = refl
 same_refl InputLimit = refl
 same_refl (Input (Json text)) = refl
 same_refl (Input (Stuck reason name)) = refl
+same_refl (Output e) = (refl, refl)
 
 -- the same answer twice
 same_both : (a b c : Answer) → a ≡ c → b ≡ c → IsSame a b
@@ -76,6 +95,74 @@ decodes_same domains m input one (Stuck reason name) (Stuck reason' name') is is
     let there : stuck.Stuck = record { reason = reason'; field = is'.1.0 } in
     let e : here ≡ there = one input (decoded.Refused here) (decoded.Refused there) (is.0, is.1.1) (is'.0, is'.1.1) in
     same_stuck m reason reason' is.1.0 is'.1.0 name name' (ap (λ (x : stuck.Stuck). x.reason) e) (ap (λ (x : stuck.Stuck). x.field) e) is.1.2 is'.1.2
+
+-- ---- texts
+
+-- what is shown of an answer without its places in memory
+abbrev shown_text : Graph → Code → List ℕ
+shown_text m (Unvalued NoJson) = line (codes "refused: 30 NotJson")
+shown_text m (Unvalued NoObject) = line (codes "refused: 31 NotObject")
+shown_text m (Unvalued (NoField key)) = key_line (codes "32 UnknownField") key
+shown_text m (Unvalued (NoValue key)) = key_line (codes "33 BadValue") key
+shown_text m (Unvalued (Twice key)) = key_line (codes "34 Duplicate") key
+shown_text m (Held bytes) = bytes
+shown_text m Long = []
+shown_text m (Unfits (fault.NoRoom needed had)) = []
+shown_text m (Unfits (fault.Unsatisfied field reason)) = line (codes "refused: 41 Unsatisfied" ++ name_text (name_if_any m field) ++ codes " " ++ unfit_name reason)
+shown_text m (Unfits (fault.Unused field)) = line (codes "refused: 42 Unused" ++ name_text (name_if_any m (Some field)))
+
+abbrev shown_status : Code → Status
+shown_status (Held bytes) = Done
+shown_status other = InputRefused
+
+record IsShownBy (domains : List Domain) (m : Graph) (text : List ℕ) (d : Encoding) : Type 0 where
+  under : Encoded
+  is : IsEncoded domains m text under
+  shows : encoding_text d ≡ shown_text m (code under)
+  ends : status_of_encoding d ≡ shown_status (code under)
+  short : code under ≡ Long → ⊥
+
+shown_by : (domains : List Domain) (m : Graph) (text : List ℕ) (d : Encoding) → EncodesTo domains m text d → IsShownBy domains m text d
+shown_by domains m text (encoding.Bytes b) is = record { under = encoded.Bytes b; is = is; shows = refl; ends = refl; short = λ h. cc }
+shown_by domains m text encoding.NotJson is = record { under = encoded.NotJson; is = is; shows = refl; ends = refl; short = λ h. cc }
+shown_by domains m text encoding.NotObject is = record { under = encoded.NotObject; is = is; shows = refl; ends = refl; short = λ h. cc }
+shown_by domains m text (encoding.UnknownField key) is = record { under = encoded.UnknownField key; is = is; shows = refl; ends = refl; short = λ h. cc }
+shown_by domains m text (encoding.BadValue key) is = record { under = encoded.BadValue key; is = is; shows = refl; ends = refl; short = λ h. cc }
+shown_by domains m text (encoding.Duplicate key) is = record { under = encoded.Duplicate key; is = is; shows = refl; ends = refl; short = λ h. cc }
+shown_by domains m text (encoding.Unsatisfied name reason) is =
+    record { under = encoded.Unsatisfied is.0 reason; is = is.1; shows = ap (λ n. encoding_text (encoding.Unsatisfied n reason)) is.2; ends = refl; short = λ h. cc }
+shown_by domains m text (encoding.Unused name) is = record { under = encoded.Unused is.0; is = is.1; shows = ap (λ n. encoding_text (encoding.Unused n)) is.2; ends = refl; short = λ h. cc }
+
+module _ (domains : List Domain) (m : Graph) (sound : IsSound domains m) where
+  alone : Exclusive domains m
+  alone = exclusive_from_checks domains m sound.holds
+
+  none : NoneFits domains m
+  none values why u fit = none_fits domains m alone values why u fit
+
+  refusal : HasOneRefusal domains m
+  refusal values why other u v = one_refusal domains m alone values why other u v
+
+  buffer : HasOneBuffer domains m
+  buffer values b other ascending x y r s = one_buffer domains m sound alone values b other ascending x y r s
+
+  long : FitsHaveLength domains m
+  long values total path fields ascending f = length_fits domains m sound values ascending total path fields f
+
+  codes_same : (text : List ℕ) (x y : Encoded) → IsEncoded domains m text x → IsEncoded domains m text y → code x ≡ code y
+  codes_same text x y is is' = one_code domains m none refusal buffer long text (code x) (code y) (coded domains m none refusal buffer long text x is) (coded domains m none refusal buffer long text y is')
+
+  encodes_same : (text : List ℕ) (d e : Encoding) → EncodesTo domains m text d → EncodesTo domains m text e → IsSame (Output d) (Output e)
+  encodes_same text d e is is' =
+      let x = shown_by domains m text d is in
+      let y = shown_by domains m text e is' in
+      let same = codes_same text x.under y.under x.is y.is in
+      (x.shows ∙ ap (shown_text m) same ∙ sym y.shows, x.ends ∙ ap shown_status same ∙ sym y.ends)
+
+  not_too_long : (text : List ℕ) (d : Encoding) → EncodesTo domains m text d → IsEncoded domains m text encoded.TooLong → ⊥
+  not_too_long text d is too_long =
+      let x = shown_by domains m text d is in
+      x.short (codes_same text x.under encoded.TooLong x.is too_long)
 
 -- ---- what packages mean
 
@@ -123,8 +210,9 @@ module _ (r : Request) (input : List ℕ) where
   -- the answer of a message that is found
   data Late (s : Specified) (m : Graph) (a : Answer) : Type 0 where
     rejects : (x : Reported) → IsReported (domains_in s) r.ask.splits (m ∷ []) x → HasOpen x → a ≡ Rejected x → Late s m a
-    too_long : Passes (domains_in s) r.ask.splits m → input_limit < length input → a ≡ InputLimit → Late s m a
-    decodes : (d : Decoding) → Passes (domains_in s) r.ask.splits m → length input ≤ input_limit → DecodesTo (domains_in s) m input d → a ≡ Input d → Late s m a
+    too_long : Passes (domains_in s) r.ask.splits m → IsTooLong r r.ask.does s m input → a ≡ InputLimit → Late s m a
+    decodes : (name : List ℕ) (d : Decoding) → Passes (domains_in s) r.ask.splits m → r.ask.does ≡ Decodes name → length input ≤ input_limit → DecodesTo (domains_in s) m input d → a ≡ Input d → Late s m a
+    encodes : (name : List ℕ) (d : Encoding) → Passes (domains_in s) r.ask.splits m → r.ask.does ≡ Encodes name → length input ≤ input_limit → EncodesTo (domains_in s) m input d → a ≡ Output d → Late s m a
 
   -- the answer of the packages
   data View (a : Answer) : Type 0 where
@@ -141,8 +229,9 @@ module _ (r : Request) (input : List ℕ) where
   view (Checked x) sound is = checks x is refl
   view (Rejected x) sound is = finds is.spec is.graph is.finds (rejects x is.reported_is is.not_passed refl)
   view SourceFault sound is = absurd (let no : true ≡ false = sound in cc)
-  view InputLimit sound is = finds is.0.0 is.0.1 is.0.2.finds (too_long is.0.2.passes is.1 refl)
-  view (Input d) sound is = finds is.0 is.1 is.2.finds (decodes d is.2.passes is.3 is.4 refl)
+  view InputLimit sound is = finds is.0 is.1 is.2.finds (too_long is.2.passes is.3 refl)
+  view (Input d) sound is = finds is.0 is.1 is.3.finds (decodes is.2 d is.3.passes is.4 is.5 is.6 refl)
+  view (Output d) sound is = finds is.0 is.1 is.3.finds (encodes is.2 d is.3.passes is.4 is.5 is.6 refl)
   view Usage sound is = absurd is
   view ShelfFault sound is = absurd is
   view (NoPackage n) sound is = absurd is
@@ -156,18 +245,44 @@ module _ (r : Request) (input : List ℕ) where
   checked_same : (a b : Answer) (x y : Reported) → IsSameReport x y → a ≡ Checked x → b ≡ Checked y → IsSame a b
   checked_same a b x y same e e' = subst (λ (k : Answer). IsSame k b) (sym e) (subst (IsSame (Checked x)) (sym e') same)
 
+  decodes_short : (s : Specified) (m : Graph) (name : List ℕ) → r.ask.does ≡ Decodes name → length input ≤ input_limit → IsTooLong r r.ask.does s m input → ⊥
+  decodes_short s m name asks few too_long =
+      let more : input_limit < length input = subst (λ (d : Does). IsTooLong r d s m input) asks too_long in
+      absurd (omega arith)
+
+  encodes_short : (s : Specified) (m : Graph) (name : List ℕ) (d : Encoding) → IsSound (domains_in s) m → r.ask.does ≡ Encodes name → length input ≤ input_limit → EncodesTo (domains_in s) m input d → IsTooLong r r.ask.does s m input → ⊥
+  encodes_short s m name d sound asks few is too_long = by_case (subst (λ (x : Does). IsTooLong r x s m input) asks too_long)
+    where
+      by_case : IsTooLong r (Encodes name) s m input → ⊥
+      by_case (inl more) = absurd (omega arith)
+      by_case (inr made) = not_too_long (domains_in s) m sound input d is made.1
+
+  one_kind : (name other : List ℕ) → r.ask.does ≡ Decodes name → r.ask.does ≡ Encodes other → ⊥
+  one_kind name other one two = (let no : Decodes name ≡ Encodes other = sym one ∙ two in cc)
+
+  sound_here : (s : Specified) (m : Graph) → Finds r s m → Passes (domains_in s) r.ask.splits m → IsSound (domains_in s) m
+  sound_here s m f passes = sound_of r.asked r.trees s r.ask.name f.name m r.ask.splits f.means.meaning f.found passes
+
   late_same : (s : Specified) (m : Graph) (a b : Answer) → Finds r s m → Late s m a → Late s m b → IsSame a b
   late_same s m a b f (rejects x is unmet e) (rejects y is' unmet' e') = rejected_same a b x y (reported_same (domains_in s) r.ask.splits (m ∷ []) x y is is') e e'
   late_same s m a b f (rejects x is unmet e) (too_long p more e') = absurd (passes_not_open (domains_in s) r.ask.splits m x p is unmet)
-  late_same s m a b f (rejects x is unmet e) (decodes d p few is' e') = absurd (passes_not_open (domains_in s) r.ask.splits m x p is unmet)
+  late_same s m a b f (rejects x is unmet e) (decodes n d p asks few is' e') = absurd (passes_not_open (domains_in s) r.ask.splits m x p is unmet)
+  late_same s m a b f (rejects x is unmet e) (encodes n d p asks few is' e') = absurd (passes_not_open (domains_in s) r.ask.splits m x p is unmet)
   late_same s m a b f (too_long p more e) (rejects y is unmet e') = absurd (passes_not_open (domains_in s) r.ask.splits m y p is unmet)
   late_same s m a b f (too_long p more e) (too_long p' more' e') = same_both a b InputLimit e e'
-  late_same s m a b f (too_long p more e) (decodes d p' few is e') = absurd (omega arith)
-  late_same s m a b f (decodes d p few is e) (rejects y is' unmet e') = absurd (passes_not_open (domains_in s) r.ask.splits m y p is' unmet)
-  late_same s m a b f (decodes d p few is e) (too_long p' more e') = absurd (omega arith)
-  late_same s m a b f (decodes d p few is e) (decodes d' p' few' is' e') =
-      let sound = sound_of r.asked r.trees s r.ask.name f.name m r.ask.splits f.means.meaning f.found p in
+  late_same s m a b f (too_long p more e) (decodes n d p' asks few is e') = absurd (decodes_short s m n asks few more)
+  late_same s m a b f (too_long p more e) (encodes n d p' asks few is e') = absurd (encodes_short s m n d (sound_here s m f p) asks few is more)
+  late_same s m a b f (decodes n d p asks few is e) (rejects y is' unmet e') = absurd (passes_not_open (domains_in s) r.ask.splits m y p is' unmet)
+  late_same s m a b f (decodes n d p asks few is e) (too_long p' more e') = absurd (decodes_short s m n asks few more)
+  late_same s m a b f (decodes n d p asks few is e) (decodes n' d' p' asks' few' is' e') =
+      let sound = sound_here s m f p in
       subst (λ (x : Answer). IsSame x b) (sym e) (subst (IsSame (Input d)) (sym e') (decodes_same (domains_in s) m input (one_answer (domains_in s) m (exclusive_from_checks (domains_in s) m sound.holds)) d d' is is'))
+  late_same s m a b f (decodes n d p asks few is e) (encodes n' d' p' asks' few' is' e') = absurd (one_kind n n' asks asks')
+  late_same s m a b f (encodes n d p asks few is e) (rejects y is' unmet e') = absurd (passes_not_open (domains_in s) r.ask.splits m y p is' unmet)
+  late_same s m a b f (encodes n d p asks few is e) (too_long p' more e') = absurd (encodes_short s m n d (sound_here s m f p) asks few is more)
+  late_same s m a b f (encodes n d p asks few is e) (decodes n' d' p' asks' few' is' e') = absurd (one_kind n' n asks' asks)
+  late_same s m a b f (encodes n d p asks few is e) (encodes n' d' p' asks' few' is' e') =
+      subst (λ (x : Answer). IsSame x b) (sym e) (subst (IsSame (Output d)) (sym e') (encodes_same (domains_in s) m (sound_here s m f p) input d d' is is'))
 
   -- one meaning, one name, and one message
   means_same : (s t : Specified) → Means r s → Means r t → s ≡ t

@@ -4,7 +4,7 @@ use Rattle.std.specs.Prelude.{if◌then◌else◌, ◌==◌}
 use Rattle.rx_program.specs.declared.status.Status.{Status}
 use Rattle.rx_program.specs.declared.status.Status.TheVariants as status
 use Rattle.rx_program.specs.declared.answer.Answer.{Answer}
-use Rattle.rx_program.specs.declared.answer.Answer.TheVariants.{Usage, ShelfFault, NoPackage, TextLimit, Refused, PackageLimit, Unserved, Broken, NoMessage, Checked, Rejected, SourceFault, InputLimit, Input}
+use Rattle.rx_program.specs.declared.answer.Answer.TheVariants.{Usage, ShelfFault, NoPackage, TextLimit, Refused, PackageLimit, Unserved, Broken, NoMessage, Checked, Rejected, SourceFault, InputLimit, Input, Output}
 use Rattle.rx_program.specs.declared.answer.Decoding.TheVariants.{Json, Stuck}
 use Rattle.rx_program.specs.Words.{Ask, asked_for, message_asked, HaveInput, HaveNoInput}
 use Rattle.rx_program.specs.Input.{IsOfInput, IsOfWhole, IsOfAll}
@@ -25,6 +25,7 @@ not_all (Rejected r) is all = absurd is
 not_all SourceFault is all = absurd all
 not_all InputLimit is all = absurd all
 not_all (Input d) is all = absurd all
+not_all (Output e) is all = absurd all
 
 -- what is answered of an input is no report of all messages
 pub input_not_all : {E : Type 0} (res : Result Answer E) → IfOk res IsOfInput → IfOk res (λ a. IsOfAll a → ⊥)
@@ -59,6 +60,7 @@ done_of (Rejected r) h = absurd (rejected_done (r.failed == 0) h)
 done_of SourceFault h = absurd (let no : status.Done ≡ status.SourceFault = h in cc)
 done_of InputLimit h = absurd (let no : status.Done ≡ status.Limit = h in cc)
 done_of (Input d) h = inl tt
+done_of (Output e) h = inl tt
 
 refused_of : (a : Answer) → status.InputRefused ≡ status_of a → IsOfWhole a
 refused_of Usage h = absurd (let no : status.InputRefused ≡ status.Words = h in cc)
@@ -75,6 +77,7 @@ refused_of (Rejected r) h = absurd (rejected_refused (r.failed == 0) h)
 refused_of SourceFault h = absurd (let no : status.InputRefused ≡ status.SourceFault = h in cc)
 refused_of InputLimit h = absurd (let no : status.InputRefused ≡ status.Limit = h in cc)
 refused_of (Input d) h = tt
+refused_of (Output e) h = tt
 
 ask_same : (a b : Ask) → Some a ≡ Some b → a ≡ b
 ask_same a b h = cc

@@ -8,11 +8,17 @@ use Rattle.rx_program.specs.declared.status.Status.TheVariants.{SourceFault as S
 use Rattle.rx_syntax.specs.declared.token.Place.{Place}
 use Rattle.rx_types.specs.declared.stuck.Reason.{Reason}
 use Rattle.rx_types.specs.declared.stuck.Reason.TheVariants as reason
+use Rattle.rx_serial.specs.declared.fault.UnfitReason.{UnfitReason}
+use Rattle.rx_serial.specs.declared.fault.UnfitReason.TheVariants as unfit
 use Rattle.rx_report.specs.declared.reported.Reported.{Reported}
+use Rattle.serde_json.specs.Data.{string}
+use Rattle.serde_json.specs.Written.{compact_text}
 use Rattle.rx_program.specs.declared.answer.Decoding.{Decoding}
 use Rattle.rx_program.specs.declared.answer.Decoding.TheVariants.{Json, Stuck}
+use Rattle.rx_program.specs.declared.answer.Encoding.{Encoding}
+use Rattle.rx_program.specs.declared.answer.Encoding.TheVariants.{Bytes, NotJson, NotObject, UnknownField, BadValue, Duplicate, Unsatisfied, Unused}
 use Rattle.rx_program.specs.declared.answer.Answer.{Answer}
-use Rattle.rx_program.specs.declared.answer.Answer.TheVariants.{Usage, ShelfFault, NoPackage, TextLimit, Refused, PackageLimit, Unserved, Broken, NoMessage, Checked, Rejected, SourceFault, InputLimit, Input}
+use Rattle.rx_program.specs.declared.answer.Answer.TheVariants.{Usage, ShelfFault, NoPackage, TextLimit, Refused, PackageLimit, Unserved, Broken, NoMessage, Checked, Rejected, SourceFault, InputLimit, Input, Output}
 use Rattle.rx_program.specs.declared.refusal.Cause.TheVariants.{Unsupported}
 use Rattle.rx_judge.specs.declared.fault.Refusal as judge
 use Rattle.rx_program.specs.declared.refusal.Refusal.{Refusal}
@@ -32,6 +38,10 @@ abbrev pub status_of_decoding : Decoding → Status
 status_of_decoding (Json text) = Done
 status_of_decoding (Stuck reason field) = InputRefused
 
+abbrev pub status_of_encoding : Encoding → Status
+status_of_encoding (Bytes bytes) = Done
+status_of_encoding refused = InputRefused
+
 -- the status of an answer that was written whole
 abbrev pub status_of : Answer → Status
 status_of Usage = Words
@@ -48,6 +58,7 @@ status_of (Rejected reported) = status_of_rejected reported
 status_of SourceFault = SourceStatus
 status_of InputLimit = Limit
 status_of (Input decoding) = status_of_decoding decoding
+status_of (Output encoding) = status_of_encoding encoding
 
 -- a line
 abbrev pub line : List ℕ → List ℕ
@@ -84,6 +95,29 @@ name_text (Some name) = codes " " ++ name
 abbrev pub stuck_text : Reason → Option (List ℕ) → List ℕ
 stuck_text reason name = line (codes "refused: " ++ reason_name reason ++ name_text name)
 
+abbrev pub unfit_name : UnfitReason → List ℕ
+unfit_name unfit.Condition = codes "Condition"
+unfit_name unfit.Missing = codes "Missing"
+unfit_name unfit.Value = codes "Value"
+unfit_name unfit.Size = codes "Size"
+unfit_name unfit.Short = codes "Short"
+unfit_name unfit.Overlay = codes "Overlay"
+
+-- `refused: NUMBER NAME KEY`, the key as JSON
+abbrev pub key_line : List ℕ → List ℕ → List ℕ
+key_line rule key = line (codes "refused: " ++ rule ++ codes " " ++ compact_text (string key))
+
+-- the bytes of a message alone, or why there are none
+abbrev pub encoding_text : Encoding → List ℕ
+encoding_text (Bytes bytes) = bytes.items
+encoding_text NotJson = line (codes "refused: 30 NotJson")
+encoding_text NotObject = line (codes "refused: 31 NotObject")
+encoding_text (UnknownField key) = key_line (codes "32 UnknownField") key.items
+encoding_text (BadValue key) = key_line (codes "33 BadValue") key.items
+encoding_text (Duplicate key) = key_line (codes "34 Duplicate") key.items
+encoding_text (Unsatisfied name reason) = line (codes "refused: 41 Unsatisfied" ++ name_text name ++ codes " " ++ unfit_name reason)
+encoding_text (Unused name) = line (codes "refused: 42 Unused" ++ name_text name)
+
 -- the text is that of the answer
 abbrev pub IsText : Answer → List ℕ → Type 0
 IsText Usage text = text ≡ line (codes "usage: rflx check P, decode P::M [--deep Q], encode P::M, run P::S, load N, all with [--splits K]")
@@ -101,6 +135,7 @@ IsText SourceFault text = text ≡ line (codes "fault: source")
 IsText InputLimit text = text ≡ line (codes "limit: input")
 IsText (Input (Json json)) text = text ≡ line json.items
 IsText (Input (Stuck reason name)) text = text ≡ stuck_text reason name
+IsText (Output encoding) text = text ≡ encoding_text encoding
 
 -- the status is that of the answer, or what may take the place of any other
 abbrev pub IsShown : Answer → Status → Type 0

@@ -3,7 +3,7 @@
 --   TellsForm, TellsRule     why the packages are refused, and in which file
 --   Means, Finds, Serves     what they mean, the message in it that is asked for, and that its checks pass
 --   AnswersTo r input a      the answers by cases
-use Rattle.std.specs.Prelude.{◌≡◌, ℕ, ◌<◌, ◌≤◌, List, [], ◌∷◌, length, Some, None, Ok, Err, slice_get}
+use Rattle.std.specs.Prelude.{◌≡◌, ◌⊎◌, ℕ, ◌<◌, ◌≤◌, List, [], ◌∷◌, length, Some, None, Ok, Err, slice_get}
 use Rattle.rx_syntax.specs.declared.token.Place.{Place}
 use Rattle.rx_syntax.specs.declared.tree.PackageTree.{PackageTree}
 use Rattle.rx_graph.specs.Graph.{Graph, Specified}
@@ -13,14 +13,16 @@ use Rattle.rx_spec.specs.Laws.{domains_in}
 use Rattle.rx_spec.specs.declared.fault.Told.{Told}
 use Rattle.rx_report.specs.declared.reported.Reported.{Reported}
 use Rattle.rx_report.specs.Reported.{messages_of, Passes, IsReported, HasOpen}
-use Rattle.rx_program.specs.Words.{Ask, Checks, message_asked}
+use Rattle.rx_encode.specs.Encoded.{IsEncoded}
+use Rattle.rx_encode.specs.declared.encoding.Encoded.TheVariants.{TooLong}
+use Rattle.rx_program.specs.Words.{Does, Ask, Checks, Decodes, Encodes, message_asked}
 use Rattle.rx_program.specs.Stage.{of_packages, AreServed}
 use Rattle.rx_program.specs.Operand.{message_in}
-use Rattle.rx_program.specs.Input.{input_limit, DecodesTo}
+use Rattle.rx_program.specs.Input.{input_limit, DecodesTo, EncodesTo}
 use Rattle.rx_program.specs.declared.stage.Unserved as stage
 use Rattle.rx_program.specs.declared.closure.Packages.{Packages}
 use Rattle.rx_program.specs.declared.answer.Answer.{Answer}
-use Rattle.rx_program.specs.declared.answer.Answer.TheVariants.{Unserved, Broken, NoMessage, Checked, Rejected, SourceFault, InputLimit, Input}
+use Rattle.rx_program.specs.declared.answer.Answer.TheVariants.{Unserved, Broken, NoMessage, Checked, Rejected, SourceFault, InputLimit, Input, Output}
 
 -- what is asked for, the names under which the packages of the closure were fetched, and their trees
 pub record Request : Type 0 where
@@ -86,6 +88,12 @@ module _ (r : Request) where
     pub finds : Finds s m
     pub passes : Passes (domains_in s) r.ask.splits m
 
+  -- the input, or the message that is to be made of it, is too long
+  abbrev pub IsTooLong : Does → Specified → Graph → List ℕ → Type 0
+  IsTooLong Checks s m input = ⊥
+  IsTooLong (Decodes name) s m input = input_limit < length input
+  IsTooLong (Encodes name) s m input = (input_limit < length input) ⊎ ((length input ≤ input_limit) × IsEncoded (domains_in s) m input TooLong)
+
   -- the answer of the packages, and with this input
   abbrev pub AnswersTo : List ℕ → Answer → Type 0
   AnswersTo input (Unserved file unserved) = TellsForm file unserved
@@ -94,8 +102,9 @@ module _ (r : Request) where
   AnswersTo input (Checked reported) = ReportsAll reported
   AnswersTo input (Rejected reported) = ReportsOne reported
   AnswersTo input SourceFault = (s : Specified) × (m : Graph) × Serves s m
-  AnswersTo input InputLimit = ((s : Specified) × (m : Graph) × Serves s m) × (input_limit < length input)
-  AnswersTo input (Input decoding) = (s : Specified) × (m : Graph) × Serves s m × (length input ≤ input_limit) × DecodesTo (domains_in s) m input decoding
+  AnswersTo input InputLimit = (s : Specified) × (m : Graph) × Serves s m × IsTooLong r.ask.does s m input
+  AnswersTo input (Input decoding) = (s : Specified) × (m : Graph) × (name : List ℕ) × Serves s m × (r.ask.does ≡ Decodes name) × (length input ≤ input_limit) × DecodesTo (domains_in s) m input decoding
+  AnswersTo input (Output encoding) = (s : Specified) × (m : Graph) × (name : List ℕ) × Serves s m × (r.ask.does ≡ Encodes name) × (length input ≤ input_limit) × EncodesTo (domains_in s) m input encoding
   AnswersTo input answer = ⊥
 
 -- an answer to a request of packages that were all read
@@ -108,4 +117,5 @@ IsOfRequest (Rejected reported) = Unit {0}
 IsOfRequest SourceFault = Unit {0}
 IsOfRequest InputLimit = Unit {0}
 IsOfRequest (Input decoding) = Unit {0}
+IsOfRequest (Output encoding) = Unit {0}
 IsOfRequest _ = ⊥

@@ -4,22 +4,23 @@
 use Rattle.std.specs.Prelude.{◌≡◌, ℕ, Bool, true, false, List, Option, Some, None, option_and_then}
 use Rattle.rx_words.specs.Words.{Asked, Check, Decode, Encode, Run, Load, Wanted, form_of}
 
--- all messages of the package are checked, or an input is decoded as this message of it
+-- all messages of the package are checked, or an input is decoded or encoded as this message of it
 pub data Does : Type 0 where
   Checks : Does
   Decodes : List ℕ → Does
+  Encodes : List ℕ → Does
 
 pub record Ask : Type 0 where
   pub name : List ℕ
   pub does : Does
   pub splits : ℕ
 
--- encoding, machines, workloads and further packages are not served yet
+-- machines, workloads and further packages are not served yet
 abbrev pub ask_with : ℕ → Asked → Option Ask
 ask_with splits (Check name) = Some (record { name = name; does = Checks; splits = splits })
 ask_with splits (Decode name message None) = Some (record { name = name; does = Decodes message; splits = splits })
 ask_with splits (Decode name message (Some further)) = None
-ask_with splits (Encode name message) = None
+ask_with splits (Encode name message) = Some (record { name = name; does = Encodes message; splits = splits })
 ask_with splits (Run name machine) = None
 ask_with splits (Load count) = None
 
@@ -34,6 +35,7 @@ HaveNoForm words = asked_for words ≡ None
 abbrev pub message_asked : Does → Option (List ℕ)
 message_asked Checks = None
 message_asked (Decodes message) = Some message
+message_asked (Encodes message) = Some message
 
 -- the words ask for a command with an input
 abbrev pub HaveInput : List (List ℕ) → Type 0

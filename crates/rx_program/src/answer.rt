@@ -3,6 +3,7 @@ use crate::refusal::Refusal;
 use crate::stage::Unserved;
 use rx_judge::Refusal as Breach;
 use rx_report::Reported;
+use rx_serial::UnfitReason;
 use rx_types::{Name, Reason};
 
 /// What a buffer is of a message.
@@ -12,6 +13,22 @@ pub enum Decoding {
     Json(Vec<u8>),
     /// No path fits it: the longest one stops for this reason, at this field, if any.
     Stuck(Reason, Option<Name>),
+}
+
+/// What a JSON text is of a message. Members are told by their keys.
+#[derive(Debug, Drop)]
+pub enum Encoding {
+    /// The buffer that reads as its valuation.
+    Bytes(Vec<u8>),
+    NotJson,
+    NotObject,
+    UnknownField(Vec<u8>),
+    BadValue(Vec<u8>),
+    Duplicate(Vec<u8>),
+    /// The valuation does not lead on from this field, the path's last, or to this one.
+    Unsatisfied(Option<Name>, UnfitReason),
+    /// The path ends, and lacks this field of the valuation.
+    Unused(Option<Name>),
 }
 
 /// What a command answers.
@@ -39,6 +56,10 @@ pub enum Answer {
     /// The checks of the message that is asked for, some of which did not pass.
     Rejected(Reported),
     SourceFault,
+    /// The input is too long, or makes a message that is.
     InputLimit,
+    /// What the input is where it is decoded.
     Input(Decoding),
+    /// What the input is where it is encoded.
+    Output(Encoding),
 }

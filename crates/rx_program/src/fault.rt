@@ -46,3 +46,9 @@ impl From<rx_report::NoMemory> for NoMemory {
         NoMemory
     }
 }
+
+impl From<rx_encode::NoMemory> for NoMemory {
+    fn from(_: rx_encode::NoMemory) -> Self {
+        NoMemory
+    }
+}

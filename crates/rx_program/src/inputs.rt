@@ -1,16 +1,20 @@
 //! What the input is of a message whose checks pass.
-ghost use Rattle.std.specs.Prelude.{◌≡◌, ◌≤◌, length, Ok, IfOk, IfSome};
+ghost use Rattle.std.specs.Prelude.{◌≡◌, ◌≤◌, ℕ, List, length, Ok, IfOk, IfSome};
 ghost use Rattle.std.specs.Io.KnownBytes.{IsAtEnd};
 ghost use Rattle.rx_io.specs.Faults.{HasRisen};
+ghost use Rattle.rx_types.specs.Domain.{Domain};
 ghost use Rattle.rx_graph.specs.Elaborated.{IsSound};
 ghost use Rattle.rx_graph.specs.Graph.{domains_of, graph_of};
 ghost use Rattle.rx_context.specs.Plan.{StandsFor};
-ghost use Rattle.rx_program.specs.Input.{name_if_any, DecodesTo, IsOfInput, IsOfWhole, IsReadAs};
+ghost use Rattle.rx_draft.specs.Drafts.{StandsForSound};
+ghost use Rattle.rx_encode.specs.Encoded.{IsEncoded};
+ghost use Rattle.rx_program.specs.Input.{name_if_any, DecodesTo, EncodesTo, IsOfInput, IsOfWhole, IsReadAs, IsWrittenAs};
 
-use crate::answer::{Answer, Decoding};
+use crate::answer::{Answer, Decoding, Encoding};
 use crate::fault::NoMemory;
 use rx_context::{Plan, sound_messages_may_be_planned};
 use rx_decode::{Decoded, decode};
+use rx_encode::{Encoded, encode};
 use rx_graph::{Message, Spec};
 use rx_io::{ReadFault, Source, read_all};
 use rx_types::{FieldId, Name};
@@ -70,7 +74,7 @@ fn decode_input(
     decode_by(alloc, message, spec, &plan, bytes)
 }
 
-/// What the input is of a message.
+/// What the input is of a message, where it is decoded.
 pub fn read_input<I: Source>(
     alloc: Global,
     message: &Message,
@@ -85,6 +89,81 @@ pub fn read_input<I: Source>(
 {
     match read_all(alloc, input, 16777215) {
         Ok(bytes) => Ok(Answer::Input(decode_input(alloc, message, spec, &bytes)?)),
+        Err(ReadFault::Failed) => Ok(Answer::SourceFault),
+        Err(ReadFault::TooLong) => Ok(Answer::InputLimit),
+        Err(ReadFault::NoMemory) => Err(NoMemory),
+    }
+}
+
+// The answer to what a text is.
+fn encoded(alloc: Global, message: &Message, encoded: Encoded) -> Result<Answer, NoMemory>
+    ensures answers { IfOk result (λ answer. (domains : List Domain) (text : List ℕ) → IsEncoded domains (graph_of message.now) text encoded → length text ≤ 16777215 → IsWrittenAs domains (graph_of message.now) text answer) }
+    ensures never { IfOk result IsOfInput }
+    ensures no_fault { result ≡ Ok Answer.SourceFault → ⊥ }
+{
+    let encoding = match encoded {
+        Encoded::Bytes(bytes) => Encoding::Bytes(bytes),
+        Encoded::NotJson => Encoding::NotJson,
+        Encoded::NotObject => Encoding::NotObject,
+        Encoded::UnknownField(key) => Encoding::UnknownField(key),
+        Encoded::BadValue(key) => Encoding::BadValue(key),
+        Encoded::Duplicate(key) => Encoding::Duplicate(key),
+        Encoded::TooLong => return Ok(Answer::InputLimit),
+        Encoded::Unsatisfied(field, reason) => {
+            Encoding::Unsatisfied(name_of(alloc, message, field)?, reason)
+        }
+        Encoded::Unused(field) => Encoding::Unused(name_of(alloc, message, Some(field))?),
+    };
+    Ok(Answer::Output(encoding))
+}
+
+// What a JSON text is of a message.
+fn encode_input(
+    alloc: Global,
+    message: &Message,
+    spec: &Spec,
+    text: &[u8],
+) -> Result<Encoded, NoMemory>
+    requires sound { IsSound (domains_of spec.now) (graph_of message.now) }
+    ensures { IfOk result (IsEncoded (domains_of spec.now) (graph_of message.now) text.now) }
+{
+    sound_messages_may_be_planned(spec, message);
+    let plan = Plan::make(alloc, message, spec)?;
+    Ok(encode(alloc, message, spec, &plan, text)?)
+}
+
+// What a JSON text is of a message, as an answer.
+fn answer_text(
+    alloc: Global,
+    message: &Message,
+    spec: &Spec,
+    text: &[u8],
+) -> Result<Answer, NoMemory>
+    requires sound { IsSound (domains_of spec.now) (graph_of message.now) }
+    requires limit { length text.now ≤ 16777215 }
+    ensures written { IfOk result (IsWrittenAs (domains_of spec.now) (graph_of message.now) text.now) }
+    ensures never { IfOk result IsOfInput }
+    ensures no_fault { result ≡ Ok Answer.SourceFault → ⊥ }
+{
+    let found = encode_input(alloc, message, spec, text)?;
+    encoded(alloc, message, found)
+}
+
+/// What the input is of a message, where it is encoded.
+pub fn write_input<I: Source>(
+    alloc: Global,
+    message: &Message,
+    spec: &Spec,
+    input: &mut I,
+) -> Result<Answer, NoMemory>
+    requires sound { IsSound (domains_of spec.now) (graph_of message.now) }
+    ensures written { IfOk result (λ answer. IfSome (I.left input.old) (λ left. IsWrittenAs (domains_of spec.now) (graph_of message.now) left answer)) }
+    ensures at_end { IfOk result (λ answer. IsOfWhole answer → IsAtEnd (I.left input.new)) }
+    ensures never { IfOk result IsOfInput }
+    ensures cause { result ≡ Ok Answer.SourceFault → HasRisen (I.faults input.old) (I.faults input.new) }
+{
+    match read_all(alloc, input, 16777215) {
+        Ok(text) => answer_text(alloc, message, spec, &text),
         Err(ReadFault::Failed) => Ok(Answer::SourceFault),
         Err(ReadFault::TooLong) => Ok(Answer::InputLimit),
         Err(ReadFault::NoMemory) => Err(NoMemory),

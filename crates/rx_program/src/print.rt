@@ -4,15 +4,17 @@ ghost use Rattle.std.specs.Io.KnownBytes.{Appends};
 ghost use Rattle.rx_io.specs.Faults.{HasRisen};
 ghost use Rattle.std.specs.Str.{IsAscii};
 ghost use Rattle.rx_program.specs.Refusals.{number_of, label_of, place_text, refusal_text, rule_name, breach_text};
-ghost use Rattle.rx_program.specs.Outcome.{status_of, file_of, refused_text, unsupported_text, broken_text, reason_name, name_text, stuck_text, status_of_report, status_of_rejected, status_of_decoding, IsText, IsShown, Prints};
+ghost use Rattle.rx_program.specs.Outcome.{status_of, file_of, refused_text, unsupported_text, broken_text, reason_name, name_text, stuck_text, status_of_report, status_of_rejected, status_of_decoding, status_of_encoding, unfit_name, key_line, encoding_text, IsText, IsShown, Prints};
 
-use crate::answer::{Answer, Decoding};
+use crate::answer::{Answer, Decoding, Encoding};
 use crate::fault::NoMemory;
 use crate::refusal::{Cause, Refusal};
 use crate::status::Status;
+use rx_encode::key_text;
 use rx_io::{Sink, write_all};
 use rx_judge::Refusal as Breach;
 use rx_report::Reported;
+use rx_serial::UnfitReason;
 use rx_syntax::{Place, Word};
 use rx_types::{Name, Reason};
 use std::alloc::Global;
@@ -269,6 +271,22 @@ fn status_of_decoding(decoding: &Decoding) -> Status
     }
 }
 
+// The status of what a text is.
+fn status_of_encoding(encoding: &Encoding) -> Status
+    ensures { result ≡ status_of_encoding encoding.now }
+{
+    match encoding {
+        Encoding::Bytes(_) => Status::Done,
+        Encoding::NotJson => Status::InputRefused,
+        Encoding::NotObject => Status::InputRefused,
+        Encoding::UnknownField(_) => Status::InputRefused,
+        Encoding::BadValue(_) => Status::InputRefused,
+        Encoding::Duplicate(_) => Status::InputRefused,
+        Encoding::Unsatisfied(_, _) => Status::InputRefused,
+        Encoding::Unused(_) => Status::InputRefused,
+    }
+}
+
 // The status of an answer.
 fn status_of(answer: &Answer) -> Status
     ensures { result ≡ status_of answer.now }
@@ -288,6 +306,7 @@ fn status_of(answer: &Answer) -> Status
         Answer::SourceFault => Status::SourceFault,
         Answer::InputLimit => Status::Limit,
         Answer::Input(decoding) => status_of_decoding(decoding),
+        Answer::Output(encoding) => status_of_encoding(encoding),
     }
 }
 
@@ -306,6 +325,58 @@ fn input_text(alloc: Global, decoding: Decoding) -> Result<Vec<u8>, NoMemory>
     match decoding {
         Decoding::Json(json) => as_line(json),
         Decoding::Stuck(reason, name) => stuck(alloc, reason, &name),
+    }
+}
+
+// The name of a reason why a valuation fits no path.
+fn unfit_name(reason: UnfitReason) -> &'static str
+    ensures { result.now ≡ unfit_name reason }
+{
+    match reason {
+        UnfitReason::Condition => "Condition",
+        UnfitReason::Missing => "Missing",
+        UnfitReason::Value => "Value",
+        UnfitReason::Size => "Size",
+        UnfitReason::Short => "Short",
+        UnfitReason::Overlay => "Overlay",
+    }
+}
+
+// The line of a member that is refused.
+fn key_line(alloc: Global, rule: &str, key: &[u8]) -> Result<Vec<u8>, NoMemory>
+    ensures { IfOk result (λ text. text.items ≡ key_line rule.now key.now) }
+{
+    let key = key_text(alloc, key)?;
+    let mut rule_and_key = Vec::new(alloc);
+    put_both(&mut rule_and_key, rule.as_bytes(), b" ")?;
+    line_of(alloc, b"refused: ", &rule_and_key, &key)
+}
+
+// The line of a valuation that does not lead on.
+fn unsatisfied(alloc: Global, name: &Option<Name>, reason: UnfitReason) -> Result<Vec<u8>, NoMemory>
+    ensures { IfOk result (λ text. text.items ≡ encoding_text (Encoding.Unsatisfied name.now reason)) }
+{
+    let mut told = name_text(alloc, name)?;
+    put_both(&mut told, b" ", unfit_name(reason).as_bytes())?;
+    line_of(alloc, b"refused: 41 Unsatisfied", &told, b"")
+}
+
+// The text of what a JSON text is.
+fn output_text(alloc: Global, encoding: Encoding) -> Result<Vec<u8>, NoMemory>
+    ensures { IfOk result (λ text. text.items ≡ encoding_text encoding) }
+{
+    match encoding {
+        Encoding::Bytes(bytes) => Ok(bytes),
+        Encoding::NotJson => line_of(alloc, b"refused: 30 NotJson", b"", b""),
+        Encoding::NotObject => line_of(alloc, b"refused: 31 NotObject", b"", b""),
+        Encoding::UnknownField(key) => key_line(alloc, "32 UnknownField", &key),
+        Encoding::BadValue(key) => key_line(alloc, "33 BadValue", &key),
+        Encoding::Duplicate(key) => key_line(alloc, "34 Duplicate", &key),
+        Encoding::Unsatisfied(name, reason) => unsatisfied(alloc, &name, reason),
+        Encoding::Unused(name) => {
+            let name = name_text(alloc, &name)?;
+            line_of(alloc, b"refused: 42 Unused", &name, b"")
+        }
     }
 }
 
@@ -338,6 +409,7 @@ fn text_of(alloc: Global, answer: Answer) -> Result<Vec<u8>, NoMemory>
         Answer::SourceFault => line_of(alloc, b"fault: source", b"", b""),
         Answer::InputLimit => line_of(alloc, b"limit: input", b"", b""),
         Answer::Input(decoding) => input_text(alloc, decoding),
+        Answer::Output(encoding) => output_text(alloc, encoding),
     }
 }
 

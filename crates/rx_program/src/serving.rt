@@ -18,7 +18,7 @@ ghost use Rattle.rx_program.specs.Request.{Request, Means, Finds, AnswersTo, req
 use crate::answer::Answer;
 use crate::closure::Packages;
 use crate::fault::NoMemory;
-use crate::inputs::read_input;
+use crate::inputs::{read_input, write_input};
 use crate::operand::find_message;
 use crate::stage::{Found, first_unserved};
 use crate::words::{Ask, Does};
@@ -54,6 +54,7 @@ fn answer_input<I: Source>(
     match &ask.does {
         Does::Checks => unreachable!(),
         Does::Decodes(_) => read_input(alloc, message, spec, input),
+        Does::Encodes(_) => write_input(alloc, message, spec, input),
     }
 }
 
@@ -144,6 +145,7 @@ fn answer_spec<I: Source>(
             Ok(Answer::Checked(reported))
         }
         Does::Decodes(name) => answer_named(alloc, ask, name, packages, spec, input),
+        Does::Encodes(name) => answer_named(alloc, ask, name, packages, spec, input),
     }
 }
 

@@ -107,7 +107,7 @@ pub fn run<H: Shelf, I: Source, O: Sink>(
     ensures shelf_fault { result ≡ Status.ShelfFault → HasRisen (H.faults shelf.old) (H.faults shelf.new) }
     ensures source_fault { result ≡ Status.SourceFault → HasRisen (I.faults input.old) (I.faults input.new) }
     ensures sink_fault { result ≡ Status.SinkFault → HasRisen (O.faults out.old) (O.faults out.new) }
-    // the texts stay; an input that was decoded or refused was read to its end; `check` leaves it alone
+    // the texts stay; an input that was decoded, encoded or refused was read to its end; `check` leaves it alone
     ensures same { SameTexts (H.texts shelf.old) (H.texts shelf.new) }
     ensures at_end { HaveInput (map string_bytes words.now) → ReadsAll result (IsAtEnd (I.left input.new)) }
     ensures untouched { HaveNoInput (map string_bytes words.now) → input.new ≡ input.old }

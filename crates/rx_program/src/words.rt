@@ -11,11 +11,12 @@ use rx_types::Name;
 use rx_words::{Command, Request, WordsFault};
 use std::alloc::Global;
 
-/// What is done: all messages of a package are checked, or an input is decoded as this message.
+/// What is done: all messages of a package are checked, or an input is decoded or encoded as this message.
 #[derive(Debug, Drop)]
 pub enum Does {
     Checks,
     Decodes(Name),
+    Encodes(Name),
 }
 
 /// What is asked for: a package, and how many splits a query may take, 1 to 4,096.
@@ -64,8 +65,16 @@ fn ask_by(alloc: Global, request: Request<'_>) -> Result<Option<Ask>, NoMemory>
                 splits,
             }))
         }
+        Command::Encode { package, message } => {
+            let name = name_of(alloc, package)?;
+            let message = name_of(alloc, message)?;
+            Ok(Some(Ask {
+                name,
+                does: Does::Encodes(message),
+                splits,
+            }))
+        }
         Command::Decode { deep: Some(_), .. } => Ok(None),
-        Command::Encode { .. } => Ok(None),
         Command::Run { .. } => Ok(None),
         Command::Load { .. } => Ok(None),
     }

@@ -26,7 +26,7 @@ fn size_of(plan: &Plan, field: FieldId, value: &Value) -> u128
 }
 
 // How many bits a value has of its own.
-fn own_bits(plan: &Plan, field: FieldId, value: &Value) -> u128
+pub(crate) fn own_bits(plan: &Plan, field: FieldId, value: &Value) -> u128
     ensures { (domains : List Domain) (m : Graph) → StandsFor domains m plan.now → result ≡ unless_overlay (overlay_of (slice_get m.fields field)) (content_size (type_of domains m field) (content value.now)) }
 {
     if plan.is_overlay(field) {
