@@ -54,5 +54,5 @@ domains_same s = domains_same_in s.scalars.items
 
 
 -- the first type is that one
-pub first_same : {ds : List Domain} → slice_get ds 0 ≡ Some boolean → (d : Domain) → slice_get ds 0 ≡ Some d → d ≡ boolean
-first_same first d is = (let same : Some d ≡ Some boolean = sym is ∙ first in cc)
+pub first_same : (ds : List Domain) → slice_get ds 0 ≡ Some boolean → (d : Domain) → slice_get ds 0 ≡ Some d → d ≡ boolean
+first_same ds first d is = (let same : Some d ≡ Some boolean = sym is ∙ first in cc)

@@ -2,7 +2,7 @@ use Rattle.std.proofs.Common.{◌≡◌, List, length, map, Some, Err, sym, ap, 
 use Rattle.std.specs.Prelude.{slice_get}
 use Rattle.std.specs.List.{AllByRecursion}
 use Rattle.rx_types.specs.Domain.{Domain, boolean}
-use Rattle.rx_graph.specs.Graph.{graph_of}
+use Rattle.rx_graph.specs.Graph.{graph_of, domains_of}
 use Rattle.rx_forms.specs.PathLimit.{MayBeChecked}
 use Rattle.rx_spec.specs.Elaboration.{elaborated}
 use Rattle.rx_program.specs.Stage.{of_packages}
@@ -39,4 +39,4 @@ answer_spec-requires-clause-messages g c =
 
 pub answer_spec-requires-clause-boolean : goal.answer_spec-requires-clause-boolean
 answer_spec-requires-clause-boolean g c =
-    first_same (subst (λ (ds : List Domain). slice_get ds 0 ≡ Some boolean) (domains_same c.in-Ok.spec) c.in-Ok.ensures.sound.boolean)
+    first_same (domains_of c.in-Ok.spec) (subst (λ (ds : List Domain). slice_get ds 0 ≡ Some boolean) (domains_same c.in-Ok.spec) c.in-Ok.ensures.sound.boolean)
