@@ -2,6 +2,9 @@ pub mod Along
 pub mod Answering
 pub mod Asking
 pub mod Behind
+pub mod Bounds
+pub mod FactsFit
+pub mod Widths
 pub mod Checking
 pub mod Covering
 pub mod Cuts
@@ -21,6 +24,7 @@ pub mod Meeting
 pub mod Numbered
 pub mod Placed
 pub mod Placing
+pub mod RowsFit
 pub mod Satisfied
 pub mod Stepping
 pub mod Taking
