@@ -4,6 +4,7 @@ pub mod Asking
 pub mod Behind
 pub mod Bounds
 pub mod FactsFit
+pub mod FrontsFit
 pub mod Widths
 pub mod Checking
 pub mod Covering
