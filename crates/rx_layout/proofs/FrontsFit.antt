@@ -55,10 +55,10 @@ pub record IsFitting (n : ℕ) (front : Front) : Type 0 where
   pub rows : list_all (fits_row n) front.rows ≡ true
   pub conditions : list_all (fits n) front.conditions ≡ true
 
-join_rows : (n : ℕ) (xs ys : List Linear) → list_all (fits_row n) xs ≡ true → list_all (fits_row n) ys ≡ true → list_all (fits_row n) (xs ++ ys) ≡ true
+pub join_rows : (n : ℕ) (xs ys : List Linear) → list_all (fits_row n) xs ≡ true → list_all (fits_row n) ys ≡ true → list_all (fits_row n) (xs ++ ys) ≡ true
 join_rows n xs ys h e = list_all-append (fits_row n) xs ys ∙ and_true h e
 
-join_facts : (n : ℕ) (xs ys : List Form) → list_all (fits n) xs ≡ true → list_all (fits n) ys ≡ true → list_all (fits n) (xs ++ ys) ≡ true
+pub join_facts : (n : ℕ) (xs ys : List Form) → list_all (fits n) xs ≡ true → list_all (fits n) ys ≡ true → list_all (fits n) (xs ++ ys) ≡ true
 join_facts n xs ys h e = list_all-append (fits n) xs ys ∙ and_true h e
 
 module _ (domains : List Domain) (m : Graph) where
@@ -103,17 +103,17 @@ end_low n [] h = zero_low n
 end_low n (g ∷ []) h = h.0.end
 end_low n (g ∷ k ∷ gs) h = end_low n (k ∷ gs) h.1
 
-each_low : (n : ℕ) (xs : List Formed) (g : Formed) → AllByRecursion (λ g. AreLowTo n g) xs → AreLowTo n g → AllByRecursion (λ g. AreLowTo n g) (xs ++ g ∷ [])
+pub each_low : (n : ℕ) (xs : List Formed) (g : Formed) → AllByRecursion (λ g. AreLowTo n g) xs → AreLowTo n g → AllByRecursion (λ g. AreLowTo n g) (xs ++ g ∷ [])
 each_low n [] g h l = (l, tt)
 each_low n (x ∷ xs) g h l = (h.0, each_low n xs g h.1 l)
 
 -- the sum of a First or a Size has the variables of its divisions, and those of the fields
-said_width : (d n : ℕ) (fields : List Formed) (x : Option Tree) (otherwise : Linear) → d ≤ n → 1 ≤ n → AllByRecursion (λ g. AreLowTo d g) fields → length otherwise.coefficients ≤ n + divisions_in_any x
+pub said_width : (d n : ℕ) (fields : List Formed) (x : Option Tree) (otherwise : Linear) → d ≤ n → 1 ≤ n → AllByRecursion (λ g. AreLowTo d g) fields → length otherwise.coefficients ≤ n + divisions_in_any x
     → length (form_or x fields n otherwise).coefficients ≤ n + divisions_in_any x
 said_width d n fields None otherwise h e l w = w
 said_width d n fields (Some x) otherwise h e l w = short_linear fields d (λ f. found_low d fields f l) n x h e
 
-number_low : (n : ℕ) (type : Option Domain) (s : Step) → s.scalar + scalars_in type ≤ n → IsLowTo n (number_form type s)
+pub number_low : (n : ℕ) (type : Option Domain) (s : Step) → s.scalar + scalars_in type ≤ n → IsLowTo n (number_form type s)
 number_low n None s h = zero_low n
 number_low n (Some t) s h = let w = term_length s.scalar (pos 1) in record { short = omega (arith, w, h); low = one_low s.scalar; constant = omega (arith, ints) }
   where
@@ -121,7 +121,7 @@ number_low n (Some t) s h = let w = term_length s.scalar (pos 1) in record { sho
     one_low zero = refl
     one_low (suc v) = and_true refl (one_low v)
 
-size_width : (d n : ℕ) (type : Option Domain) (s : Step) → AllByRecursion (λ g. AreLowTo d g) s.before → d ≤ size_division s → 1 ≤ size_division s → length (first_form s).coefficients ≤ size_division s → size_division s + divisions_in_any (size_aspect type s.link.size) ≤ n
+pub size_width : (d n : ℕ) (type : Option Domain) (s : Step) → AllByRecursion (λ g. AreLowTo d g) s.before → d ≤ size_division s → 1 ≤ size_division s → length (first_form s).coefficients ≤ size_division s → size_division s + divisions_in_any (size_aspect type s.link.size) ≤ n
     → length (size_form type s).coefficients ≤ n
 size_width d n (Some t) s l h e w r = omega arith
 size_width d n None s l h e w r =

@@ -23,6 +23,7 @@ pub mod Listing
 pub mod Lists
 pub mod Meeting
 pub mod Numbered
+pub mod PathsFit
 pub mod Placed
 pub mod Placing
 pub mod RowsFit
