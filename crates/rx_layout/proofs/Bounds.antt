@@ -10,6 +10,7 @@ use Rattle.rx_forms.specs.declared.linear.Linear.{Linear}
 use Rattle.rx_forms.specs.Linear.{constant, term, minus, less_one}
 use Rattle.rx_forms.specs.Limits.{is_low}
 use Rattle.rx_layout.specs.Fitting.{fits_row}
+pub use Rattle.rx_layout.specs.Fitting.{IsLowTo}
 
 below : (a b : ℕ) → nat_lt a b ≡ true → a < b
 below a b e = grind (arith, e)
@@ -95,12 +96,6 @@ weighted_width (l ∷ ls) (r ∷ rs) a b (suc k) p q = let h = weighted_width ls
 
 pub fits_by : (n : ℕ) (f : Linear) → length f.coefficients ≤ n → Under (2 ^ 20) f.coefficients → unsigned_abs f.constant < 2 ^ 100 → fits_row n f ≡ true
 fits_by n f w a c = and_true (and_true (is_up_to (length f.coefficients) n w) a) (is_below (unsigned_abs f.constant) (2 ^ 100) c)
-
--- a sum as the path limit has it, over the variables below n
-pub record IsLowTo (n : ℕ) (f : Linear) : Type 0 where
-  pub short : length f.coefficients ≤ n
-  pub low : Under (2 ^ 18) f.coefficients
-  pub constant : unsigned_abs f.constant < 2 ^ 98
 
 pub low_to : (n : ℕ) (f : Linear) → length f.coefficients ≤ n → is_low f ≡ true → IsLowTo n f
 low_to n f w h =

@@ -1,5 +1,4 @@
 -- What is gathered along a path that stays within the path limit may be the rows of a system.
---   IsFitting n front    its sums are low, and its rows and facts fit n variables
 use Rattle.std.proofs.Common.{◌≡◌, refl, sym, ap, subst, ◌∙◌, ℕ, zero, suc, ◌+◌, ◌<◌, ◌≤◌, ◌^◌, ◌==◌, arith, List, [], ◌∷◌, ◌++◌, length, replicate, Bool, true, false, ◌&&◌, if◌then◌else◌, ℤ, pos, negsuc, unsigned_abs, Option, Some, None}
 use Rattle.std.specs.Prelude.{nat_le}
 use Rattle.std.proofs.lemmas.Int.{ints}
@@ -21,6 +20,7 @@ use Rattle.rx_forms.specs.Worked.{aspect_within}
 use Rattle.rx_forms.specs.Gathered.{met_any}
 use Rattle.rx_forms.specs.Fronts.{Front, after_end}
 use Rattle.rx_layout.specs.Fitting.{fits, fits_row}
+pub use Rattle.rx_layout.specs.Fitting.{IsFitting}
 use Rattle.rx_layout.specs.Made
 use Rattle.rx_layout.proofs.Bounds.{Under, IsLowTo, weighted_width}
 use Rattle.rx_layout.proofs.Widths.{AreLowTo, short_linear}
@@ -48,12 +48,6 @@ found_low n (g ∷ gs) f h = by_field (g.field == f) (found_low n gs f h.1)
 pub each_wider : (d n : ℕ) (fields : List Formed) → d ≤ n → AllByRecursion (λ g. AreLowTo d g) fields → AllByRecursion (λ g. AreLowTo n g) fields
 each_wider d n [] h l = l
 each_wider d n (g ∷ gs) h l = (all_wider d n g h l.0, each_wider d n gs h l.1)
-
-pub record IsFitting (n : ℕ) (front : Front) : Type 0 where
-  pub some : 1 ≤ front.division
-  pub fields : AllByRecursion (λ g. AreLowTo front.division g) front.fields
-  pub rows : list_all (fits_row n) front.rows ≡ true
-  pub conditions : list_all (fits n) front.conditions ≡ true
 
 pub join_rows : (n : ℕ) (xs ys : List Linear) → list_all (fits_row n) xs ≡ true → list_all (fits_row n) ys ≡ true → list_all (fits_row n) (xs ++ ys) ≡ true
 join_rows n xs ys h e = list_all-append (fits_row n) xs ys ∙ and_true h e

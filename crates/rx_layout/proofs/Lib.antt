@@ -1,9 +1,12 @@
 pub mod Along
 pub mod Answering
+pub mod AskedFit
 pub mod Asking
 pub mod Behind
 pub mod Bounds
 pub mod FactsFit
+pub mod FormsFit
+pub mod FormulasFit
 pub mod FrontsFit
 pub mod Widths
 pub mod Checking
@@ -16,6 +19,7 @@ pub mod Flat
 pub mod Formulas
 pub mod Gathered
 pub mod Holding
+pub mod TypesFit
 pub mod Units
 pub mod Whole
 pub mod Joining

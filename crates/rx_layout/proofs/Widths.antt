@@ -6,15 +6,9 @@ use Rattle.rx_types.specs.Static.{is_static, static_value}
 use Rattle.rx_forms.specs.declared.linear.Linear.{Linear}
 use Rattle.rx_forms.specs.Linear.{constant, times, term}
 use Rattle.rx_forms.specs.Normal.{Formed, formed_of, linear, divisions_in}
+pub use Rattle.rx_layout.specs.Fitting.{AreLowTo}
 use Rattle.rx_layout.proofs.Stepping.{term_length}
 use Rattle.rx_layout.proofs.Bounds.{weighted_width, IsLowTo}
-
--- the sums of a field are low, over the variables below n
-pub record AreLowTo (n : ℕ) (g : Formed) : Type 0 where
-  pub first : IsLowTo n g.first
-  pub size : IsLowTo n g.size
-  pub end : IsLowTo n g.end
-  pub number : IsLowTo n g.number
 
 by_static : (s : Bool) (f g : Linear) (j k : ℤ) (n x y : ℕ) → length f.coefficients ≤ n + x → length g.coefficients ≤ n + y → length (if s then times k g else times j f).coefficients ≤ n + (if s then y else x)
 by_static true f g j k n x y h e = weighted_width g.coefficients [] k (pos 1) (n + y) e (omega arith)
