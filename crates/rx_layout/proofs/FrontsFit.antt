@@ -28,7 +28,7 @@ use Rattle.rx_layout.proofs.Stepping.{term_length}
 use Rattle.rx_layout.proofs.FactsFit.{condition_fits}
 use Rattle.rx_layout.proofs.RowsFit.{divisions_fit}
 
-wider : (d n : ℕ) (f : Linear) → d ≤ n → IsLowTo d f → IsLowTo n f
+pub wider : (d n : ℕ) (f : Linear) → d ≤ n → IsLowTo d f → IsLowTo n f
 wider d n f h l = let w = l.short in record { short = omega (arith, h, w); low = l.low; constant = l.constant }
 
 pub all_wider : (d n : ℕ) (g : Formed) → d ≤ n → AreLowTo d g → AreLowTo n g
