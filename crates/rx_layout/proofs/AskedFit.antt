@@ -82,7 +82,7 @@ module _ (domains : List Domain) (m : Graph) where
       let d = ap (λ (x : Front). x.division) e in
       subst (λ (y : Front). IsFitting n y) (sym e) (any_fits domains m n front x f narrow w (omega (arith, d, r)) h)
 
--- ---- a whole path
+  -- ---- a whole path
 
   -- a goal's variables stand behind those of the path
   with_more : (o : Option Arrow) (fields : List Formed) (n : ℕ) (ask : Arrow → QueryOf.Asked) → ((l : Arrow) → n ≤ (ask l).variables) → n ≤ (QueryOf.with_link domains m o fields n ask).variables
@@ -139,4 +139,4 @@ module _ (domains : List Domain) (m : Graph) where
       let scalar = ap (λ (x : Front). x.scalar) e in
       let division = ap (λ (x : Front). x.division) e in
       step n r (subst (λ (x : Front). IsFitting n x) (sym g)
-        (path_fits domains m n front links (path_narrow (limit_of domains m) path narrow) w (omega (arith, more, last, up, r)) (omega (arith, scalar, division, k)) (first_fits n count front e)))
+      (path_fits domains m n front links (path_narrow (limit_of domains m) path narrow) w (omega (arith, more, last, up, r)) (omega (arith, scalar, division, k)) (first_fits n count front e)))

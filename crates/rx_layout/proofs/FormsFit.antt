@@ -52,7 +52,7 @@ rest_fits n f g e l k =
     fits_by n (minus (minus bits f) g)
     (weighted_width cs g.coefficients (pos 1) (negsuc 0) n (weighted_width bits.coefficients f.coefficients (pos 1) (negsuc 0) n (omega (arith, one, e)) l.short) k.short)
     (under_more (16 + 2 ^ 18 + 2 ^ 18) (2 ^ 20) (weighted_sum cs (pos 1) g.coefficients (negsuc 0)) (omega arith)
-      (minus_under cs g.coefficients (16 + 2 ^ 18) (2 ^ 18) (minus_under bits.coefficients f.coefficients 16 (2 ^ 18) refl l.low) k.low))
+    (minus_under cs g.coefficients (16 + 2 ^ 18) (2 ^ 18) (minus_under bits.coefficients f.coefficients 16 (2 ^ 18) refl l.low) k.low))
     (small f.constant g.constant l.constant k.constant)
   where
     small : (c d : ℤ) → unsigned_abs c < 2 ^ 98 → unsigned_abs d < 2 ^ 98 → unsigned_abs (pos 1 *ℤ (pos 1 *ℤ pos 0 +ℤ negsuc 0 *ℤ c) +ℤ negsuc 0 *ℤ d) < 2 ^ 100

@@ -76,9 +76,9 @@ module _ (domains : List Domain) (m : Graph) where
       let ends = low_to next (plus (first_form step) (size_form type step)) (weighted_width (first_form step).coefficients (size_form type step).coefficients (pos 1) (pos 1) next a b) k.ends in
       let formed : AreLowTo next (formed_at domains m step) = record { first = begins; size = extends; end = ends; number = number_low next type step (omega (arith, v)) } in
       let rows = join_rows n (divisions limit front.fields d link.condition) _ (divisions_fit limit front.fields d low n d link.condition (omega arith) s (omega (arith, r)) k.condition narrow.condition)
-          (join_rows n (divisions_any limit front.fields (first_division step) link.first) _
-            (aspect_rows limit front.fields d n (first_division step) link.first h.fields (omega arith) (omega (arith, s)) (omega (arith, r)) k.aspect narrow.first)
-            (aspect_rows limit front.fields d n (size_division step) (size_aspect type link.size) h.fields (omega arith) (omega (arith, s)) r k.long (narrow_aspect limit type link.size narrow.size))) in
+      (join_rows n (divisions_any limit front.fields (first_division step) link.first) _
+      (aspect_rows limit front.fields d n (first_division step) link.first h.fields (omega arith) (omega (arith, s)) (omega (arith, r)) k.aspect narrow.first)
+      (aspect_rows limit front.fields d n (size_division step) (size_aspect type link.size) h.fields (omega arith) (omega (arith, s)) r k.long (narrow_aspect limit type link.size narrow.size))) in
       record {
         some = omega (arith, s);
         fields = each_low next front.fields (formed_at domains m step) (each_wider d next front.fields (omega arith) h.fields) formed;

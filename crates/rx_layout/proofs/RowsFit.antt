@@ -135,7 +135,6 @@ module _ (limit : ℕ → ℕ) (fields : List Formed) (d : ℕ) (low : (f : ℕ)
       division_fits N q f (static_value b) (low_to q f (short_linear fields d low n a h e) (both {a = is_low f} k).0) (omega (arith, r)) (divisor_positive limit b nb v) (divisor_below limit b nb v) (interval_of limit a) (short_of limit a na)
 
   pub divisions_fit : (n : ℕ) (x : Tree) → d ≤ n → 1 ≤ n → n + divisions_in x ≤ N → all_kept (met fields n x) ≡ true → IsNarrow limit x → RowsFit (divisions limit fields n x)
-
   divisions_fit n (Number k) h e r m w = refl
   divisions_fit n (Truth b) h e r m w = refl
   divisions_fit n (Field f) h e r m w = refl

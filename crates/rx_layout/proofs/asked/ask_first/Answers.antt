@@ -28,7 +28,9 @@ pub returns-in_err-ask_condition : goal.returns-in_err-ask_condition
 returns-in_err-ask_condition c =
     record {
       first = IfOk-from_err c.from_residual.result _ c.from_residual.ensures.0;
-      fits = IfOk-from_err c.from_residual.result _ c.from_residual.ensures.0; low = IfOk-from_err c.from_residual.result _ c.from_residual.ensures.0; gone = IfOk-from_err c.from_residual.result _ c.from_residual.ensures.0;
+      fits = IfOk-from_err c.from_residual.result _ c.from_residual.ensures.0;
+      low = IfOk-from_err c.from_residual.result _ c.from_residual.ensures.0;
+      gone = IfOk-from_err c.from_residual.result _ c.from_residual.ensures.0;
       room = IfOk-from_err c.from_residual.result _ c.from_residual.ensures.0;
     }
 

@@ -60,7 +60,7 @@ returns c =
           let le_mid : mid.division ≤ n = omega (arith, up, same, le) in
           let lows = t.low n le_mid fit in
           p n le (AskedFit.push_fits n mid last c.in_ok-formula.formula c.in_ok-push_formula.ensures (t.fits n le_mid fit)
-            (ap (λ (x : Form). fits n x) c.in_ok-formula.ensures ∙ FormulasFit.grid_fits n mid.division c.in_ok-target.target.first c.in_ok-target.target.size lows.0 lows.1 (omega (arith, up, same, le))))) c.push_quotients.ensures.fits c.push_quotients.ensures.gone;
+          (ap (λ (x : Form). fits n x) c.in_ok-formula.ensures ∙ FormulasFit.grid_fits n mid.division c.in_ok-target.target.first c.in_ok-target.target.size lows.0 lows.1 (omega (arith, up, same, le))))) c.push_quotients.ensures.fits c.push_quotients.ensures.gone;
       room = if_ok c.push_quotients.result _ _ (λ v h. next_room mid.division last.division new.division (ap (λ (x : Front). x.division) c.in_ok-push_formula.ensures) (ap (λ (x : Front). x.division) h) t.room) c.push_quotients.ensures.gone;
     }
   where

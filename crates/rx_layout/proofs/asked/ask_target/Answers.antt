@@ -28,7 +28,9 @@ pub returns-in_err-first : goal.returns-in_err-first
 returns-in_err-first c =
     record {
       target = IfOk-from_err c.from_residual.result _ c.from_residual.ensures.0;
-      fits = IfOk-from_err c.from_residual.result _ c.from_residual.ensures.0; low = IfOk-from_err c.from_residual.result _ c.from_residual.ensures.0; gone = IfOk-from_err c.from_residual.result _ c.from_residual.ensures.0;
+      fits = IfOk-from_err c.from_residual.result _ c.from_residual.ensures.0;
+      low = IfOk-from_err c.from_residual.result _ c.from_residual.ensures.0;
+      gone = IfOk-from_err c.from_residual.result _ c.from_residual.ensures.0;
       room = IfOk-from_err c.from_residual.result _ c.from_residual.ensures.0;
     }
 
@@ -39,7 +41,9 @@ pub returns-in_err-size : goal.returns-in_err-size
 returns-in_err-size c =
     record {
       target = IfOk-from_err c.from_residual-in_err-size.result _ c.from_residual-in_err-size.ensures.0;
-      fits = IfOk-from_err c.from_residual-in_err-size.result _ c.from_residual-in_err-size.ensures.0; low = IfOk-from_err c.from_residual-in_err-size.result _ c.from_residual-in_err-size.ensures.0; gone = IfOk-from_err c.from_residual-in_err-size.result _ c.from_residual-in_err-size.ensures.0;
+      fits = IfOk-from_err c.from_residual-in_err-size.result _ c.from_residual-in_err-size.ensures.0;
+      low = IfOk-from_err c.from_residual-in_err-size.result _ c.from_residual-in_err-size.ensures.0;
+      gone = IfOk-from_err c.from_residual-in_err-size.result _ c.from_residual-in_err-size.ensures.0;
       room = IfOk-from_err c.from_residual-in_err-size.result _ c.from_residual-in_err-size.ensures.0;
     }
 

@@ -62,7 +62,7 @@ returns c =
           let mid_fits = t.fits n le_mid fit in
           let low = subst (λ (y : Linear). IsLowTo mid.division y) (sym end) (end_low mid.division mid.fields mid_fits.fields) in
           AskedFit.units_step last new c.places.result c.places.ensures.short h n le (AskedFit.push_fits n mid last c.in_ok-formula.formula c.in_ok-push_formula.ensures mid_fits
-            (ap (λ (x : Form). fits n x) c.in_ok-formula.ensures ∙ FormulasFit.no_multiple_fits n mid.division c.in_ok-end.end low (omega (arith, up, same, le))))) c.push_quotient.ensures;
+          (ap (λ (x : Form). fits n x) c.in_ok-formula.ensures ∙ FormulasFit.no_multiple_fits n mid.division c.in_ok-end.end low (omega (arith, up, same, le))))) c.push_quotient.ensures;
       room = if_ok c.push_quotient.result _ _ (λ v h. next_room mid.division last.division new.division (ap (λ (x : Front). x.division) c.in_ok-push_formula.ensures) (ap (λ (x : Front). x.division) h) t.room) c.push_quotient.ensures;
     }
   where
