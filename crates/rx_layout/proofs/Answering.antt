@@ -65,6 +65,9 @@ module _ (domains : List Domain) (m : Graph) where
   pub small_types : IsElaborated domains m → Made.HasSmallTypes domains m
   small_types el f t e = proper_small t (field_proper domains m el f _ t refl e)
 
+  pub proper_types : IsElaborated domains m → Made.HasProperTypes domains m
+  proper_types el f t e = field_proper domains m el f _ t refl e
+
   -- ---- the query
 
   abbrev divided : Step → List Linear

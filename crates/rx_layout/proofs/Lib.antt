@@ -1,7 +1,14 @@
 pub mod Along
 pub mod Answering
+pub mod AskedFit
 pub mod Asking
 pub mod Behind
+pub mod Bounds
+pub mod FactsFit
+pub mod FormsFit
+pub mod FormulasFit
+pub mod FrontsFit
+pub mod Widths
 pub mod Checking
 pub mod Covering
 pub mod Cuts
@@ -12,6 +19,7 @@ pub mod Flat
 pub mod Formulas
 pub mod Gathered
 pub mod Holding
+pub mod TypesFit
 pub mod Units
 pub mod Whole
 pub mod Joining
@@ -19,8 +27,10 @@ pub mod Listing
 pub mod Lists
 pub mod Meeting
 pub mod Numbered
+pub mod PathsFit
 pub mod Placed
 pub mod Placing
+pub mod RowsFit
 pub mod Satisfied
 pub mod Stepping
 pub mod Taking

@@ -23,7 +23,7 @@ zeros_length : (j : ℕ) → length (replicate j (pos 0)) ≡ j
 zeros_length zero = refl
 zeros_length (suc j) = let e = zeros_length j in omega (arith, e)
 
-term_length : (v : ℕ) (k : ℤ) → length (replicate v (pos 0) ++ k ∷ []) ≡ v + 1
+pub term_length : (v : ℕ) (k : ℤ) → length (replicate v (pos 0) ++ k ∷ []) ≡ v + 1
 term_length v k = let a = length-append (replicate v (pos 0)) (k ∷ []) in let e = zeros_length v in omega (arith, a, e)
 
 abbrev width : Linear → ℕ

@@ -1,11 +1,11 @@
 -- What the code makes of the fields of a path, and of what is asked at its end.
 --   typed, placed, laid, laid_from    the facts of a field's type, of its place, and of the field below it
 --   as_long                           whether two scalars have one size
---   HasSmallTypes                     every scalar has fewer than 64 bits
+--   HasSmallTypes, HasProperTypes     every scalar has fewer than 64 bits, and a type as it may be declared
 --   asked_link check                  what a check of one link asks
 --   behind asked                      what stands behind a path, where this is asked too
 use Rattle.std.specs.Prelude.{◌≡◌, ◌<◌, List, [], ◌∷◌, ◌++◌, map, ℕ, ◌+◌, ◌==◌, Bool, false, Option, Some, None, slice_get}
-use Rattle.rx_types.specs.Domain.{Domain, size_of}
+use Rattle.rx_types.specs.Domain.{Domain, size_of, IsProper}
 use Rattle.rx_types.specs.Narrow.{places_in_bits}
 use Rattle.rx_types.specs.Tree.{Tree}
 use Rattle.rx_graph.specs.Graph.{Arrow, Graph, type_of, overlay_of, limit_of}
@@ -45,6 +45,9 @@ as_long None t = false
 module _ (domains : List Domain) (m : Graph) where
   abbrev pub HasSmallTypes : Type 0
   HasSmallTypes = (f : ℕ) (t : Domain) → type_of domains m f ≡ Some t → size_of t < 64
+
+  abbrev pub HasProperTypes : Type 0
+  HasProperTypes = (f : ℕ) (t : Domain) → type_of domains m f ≡ Some t → IsProper t
 
   abbrev pub typed_field : FieldForms → Form
   typed_field f = typed (type_of domains m f.field) f.variable

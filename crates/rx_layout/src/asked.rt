@@ -10,6 +10,7 @@ ghost use Rattle.rx_forms.specs.Normal.{divisions_in};
 ghost use Rattle.rx_forms.specs.Steps.{IsFormable, IsNarrowLink, AreFormable, AreNarrow, IsNarrowIfAny, target_field, form_or, end_form, size_aspect, first_form};
 ghost use Rattle.rx_forms.specs.Code.{domains_in, limits_in};
 ghost use Rattle.rx_forms.specs.Fronts.{front_of, after_end};
+ghost use Rattle.rx_layout.specs.Fitting.{IsLowTo, IsFitting};
 ghost use Rattle.rx_layout.specs.Goals.{IsGoal, HasLink, LeadsToBytes};
 ghost use Rattle.rx_layout.specs.Made.{asked_link, behind, after_any, after_target, IsTarget, grid_units, size_behind, formula_behind, units_behind};
 ghost use Rattle.rx_layout.specs.QueryOf.{goal_step, asked_of, unit_rows, null_formula, link_numbered, interval_or, rest_interval, taken_asked, position_asked, grid_asked, overlay_on, overlay_asked, cover_asked, cover_to, whole_asked, asked_by, with_link};
@@ -60,6 +61,8 @@ fn target_first(
     requires room { builder.old.work.next ≤ 190 }
     ensures first { IfOk result (λ f. f ≡ form_or (arrow_of link.now).first (front_of builder.old).fields builder.old.work.next (end_form (front_of builder.old).fields)) }
     ensures gone { OnOk result (front_of builder.new ≡ after_any (domains_in scalars.now) (graph_of message.now) (arrow_of link.now).first (front_of builder.old)) }
+    ensures fits { OnOk result ((n : ℕ) → builder.new.work.next ≤ n → IsFitting n (front_of builder.old) → IsFitting n (front_of builder.new)) }
+    ensures low { IfOk result (λ f. (n : ℕ) → builder.new.work.next ≤ n → IsFitting n (front_of builder.old) → IsLowTo builder.new.work.next f) }
     ensures room { OnOk result (builder.new.work.next ≤ 190) }
 {
     first_form(
@@ -88,6 +91,8 @@ fn target_size(
     requires room { builder.old.work.next ≤ 190 }
     ensures size { IfOk result (λ f. f ≡ size_behind (type_of (domains_in scalars.now) (graph_of message.now) field) first.now (arrow_of link.now).size (front_of builder.old)) }
     ensures gone { OnOk result (front_of builder.new ≡ after_any (domains_in scalars.now) (graph_of message.now) (size_aspect (type_of (domains_in scalars.now) (graph_of message.now) field) (arrow_of link.now).size) (front_of builder.old)) }
+    ensures fits { OnOk result ((n : ℕ) → builder.new.work.next ≤ n → IsFitting n (front_of builder.old) → IsFitting n (front_of builder.new)) }
+    ensures low { IfOk result (λ f. (n : ℕ) → builder.new.work.next ≤ n → IsFitting n (front_of builder.old) → length first.now.coefficients ≤ builder.old.work.next → IsLowTo builder.new.work.next f) }
     ensures room { OnOk result (builder.new.work.next ≤ 190) }
 {
     size_form(
@@ -115,6 +120,7 @@ fn ask_condition(
     requires narrow { IsNarrowLink (limits_in scalars.now message.now) (arrow_of link.now) }
     requires room { builder.old.work.next ≤ 190 }
     ensures gone { OnOk result (front_of builder.new ≡ after_end (domains_in scalars.now) (graph_of message.now) (front_of builder.old) (arrow_of link.now)) }
+    ensures fits { OnOk result ((n : ℕ) → builder.new.work.next ≤ n → IsFitting n (front_of builder.old) → IsFitting n (front_of builder.new)) }
     ensures room { OnOk result (builder.new.work.next ≤ 190) }
 {
     add_condition(alloc, link, message, scalars, builder)
@@ -134,6 +140,8 @@ fn ask_first(
     requires room { builder.old.work.next ≤ 190 }
     ensures first { IfOk result (λ f. f ≡ first_form (goal_step (domains_in scalars.now) (graph_of message.now) (front_of builder.old).fields builder.old.work.next (arrow_of link.now))) }
     ensures gone { OnOk result (front_of builder.new ≡ after_any (domains_in scalars.now) (graph_of message.now) (arrow_of link.now).first (after_end (domains_in scalars.now) (graph_of message.now) (front_of builder.old) (arrow_of link.now))) }
+    ensures fits { OnOk result ((n : ℕ) → builder.new.work.next ≤ n → IsFitting n (front_of builder.old) → IsFitting n (front_of builder.new)) }
+    ensures low { IfOk result (λ f. (n : ℕ) → builder.new.work.next ≤ n → IsFitting n (front_of builder.old) → IsLowTo builder.new.work.next f) }
     ensures room { OnOk result (builder.new.work.next ≤ 190) }
 {
     ask_condition(alloc, link, message, scalars, builder)?;
@@ -154,6 +162,8 @@ fn ask_target(
     requires room { builder.old.work.next ≤ 190 }
     ensures target { IfOk result (λ t. IsTarget (domains_in scalars.now) (graph_of message.now) (arrow_of link.now) (front_of builder.old) t.first t.size) }
     ensures gone { OnOk result (front_of builder.new ≡ after_target (domains_in scalars.now) (graph_of message.now) (arrow_of link.now) (front_of builder.old)) }
+    ensures fits { OnOk result ((n : ℕ) → builder.new.work.next ≤ n → IsFitting n (front_of builder.old) → IsFitting n (front_of builder.new)) }
+    ensures low { IfOk result (λ t. (n : ℕ) → builder.new.work.next ≤ n → IsFitting n (front_of builder.old) → IsLowTo builder.new.work.next t.first × IsLowTo builder.new.work.next t.size) }
     ensures room { OnOk result (builder.new.work.next ≤ 190) }
 {
     let first = ask_first(alloc, link, message, scalars, builder)?;
@@ -215,6 +225,7 @@ fn ask_taken(
     requires narrow { IsNarrowLink (limits_in scalars.now message.now) (arrow_of link.now) }
     requires room { builder.old.work.next ≤ 190 }
     ensures gone { OnOk result (front_of builder.new ≡ behind (taken_asked (domains_in scalars.now) (graph_of message.now) (front_of builder.old).fields builder.old.work.next (arrow_of link.now ∷ [])) (front_of builder.old)) }
+    ensures fits { OnOk result ((n : ℕ) → builder.new.work.next ≤ n → IsFitting n (front_of builder.old) → IsFitting n (front_of builder.new)) }
     ensures room { OnOk result (builder.new.work.next ≤ 190) }
 {
     ask_condition(alloc, link, message, scalars, builder)
@@ -233,6 +244,7 @@ fn ask_position(
     requires narrow { IsNarrowLink (limits_in scalars.now message.now) (arrow_of link.now) }
     requires room { builder.old.work.next ≤ 190 }
     ensures gone { OnOk result (front_of builder.new ≡ behind (position_asked (domains_in scalars.now) (graph_of message.now) (front_of builder.old).fields builder.old.work.next (arrow_of link.now)) (front_of builder.old)) }
+    ensures fits { OnOk result ((n : ℕ) → builder.new.work.next ≤ n → IsFitting n (front_of builder.old) → IsFitting n (front_of builder.new)) }
     ensures room { OnOk result (builder.new.work.next ≤ 190) }
 {
     let target = ask_target(alloc, link, message, scalars, builder)?;
@@ -273,7 +285,8 @@ fn push_quotients(
 ) -> Result<(), FormFault>
     requires narrow { IsNarrowLink (limits_in scalars.now message.now) (arrow_of link.now) }
     requires room { builder.old.work.next ≤ 190 }
-    ensures { OnOk result (front_of builder.new ≡ units_behind (grid_units (domains_in scalars.now) (graph_of message.now) builder.old.work.next (arrow_of link.now)) 2 (front_of builder.old)) }
+    ensures gone { OnOk result (front_of builder.new ≡ units_behind (grid_units (domains_in scalars.now) (graph_of message.now) builder.old.work.next (arrow_of link.now)) 2 (front_of builder.old)) }
+    ensures fits { OnOk result ((n : ℕ) → builder.new.work.next ≤ n → IsFitting n (front_of builder.old) → IsFitting n (front_of builder.new)) }
 {
     let first = interval_or(&link.first, places(), message, scalars);
     push_quotient(alloc, &first, builder)?;
@@ -295,6 +308,7 @@ fn ask_grid(
     requires room { builder.old.work.next ≤ 190 }
     requires bytes { type_of (domains_in scalars.now) (graph_of message.now) (target_field (arrow_of link.now).target) ≡ None }
     ensures gone { OnOk result (front_of builder.new ≡ behind (grid_asked (domains_in scalars.now) (graph_of message.now) (front_of builder.old).fields builder.old.work.next (arrow_of link.now)) (front_of builder.old)) }
+    ensures fits { OnOk result ((n : ℕ) → builder.new.work.next ≤ n → IsFitting n (front_of builder.old) → IsFitting n (front_of builder.new)) }
     ensures room { OnOk result (builder.new.work.next ≤ 192) }
 {
     let target = ask_target(alloc, link, message, scalars, builder)?;
@@ -317,6 +331,7 @@ fn ask_overlay(
     requires narrow { IsNarrowLink (limits_in scalars.now message.now) (arrow_of link.now) }
     requires room { builder.old.work.next ≤ 190 }
     ensures gone { OnOk result (front_of builder.new ≡ behind (overlay_asked (domains_in scalars.now) (graph_of message.now) (front_of builder.old).fields builder.old.work.next (arrow_of link.now) below) (front_of builder.old)) }
+    ensures fits { OnOk result ((n : ℕ) → builder.new.work.next ≤ n → IsFitting n (front_of builder.old) → IsFitting n (front_of builder.new)) }
     ensures room { OnOk result (builder.new.work.next ≤ 190) }
 {
     let target = ask_target(alloc, link, message, scalars, builder)?;
@@ -338,6 +353,7 @@ fn ask_cover(
     requires narrow { IsNarrowLink (limits_in scalars.now message.now) (arrow_of link.now) }
     requires room { builder.old.work.next ≤ 190 }
     ensures gone { OnOk result (front_of builder.new ≡ behind (cover_asked (domains_in scalars.now) (graph_of message.now) None (front_of builder.old).fields builder.old.work.next (arrow_of link.now)) (front_of builder.old)) }
+    ensures fits { OnOk result ((n : ℕ) → builder.new.work.next ≤ n → IsFitting n (front_of builder.old) → IsFitting n (front_of builder.new)) }
     ensures room { OnOk result (builder.new.work.next ≤ 190) }
 {
     let first = ask_first(alloc, link, message, scalars, builder)?;
@@ -358,6 +374,7 @@ fn ask_never(
     requires narrow { IsNarrowLink (limits_in scalars.now message.now) (arrow_of link.now) }
     requires room { builder.old.work.next ≤ 190 }
     ensures gone { OnOk result (front_of builder.new ≡ behind (asked_of (domains_in scalars.now) (graph_of message.now) (front_of builder.old).fields builder.old.work.next (arrow_of link.now ∷ []) None None (Form.Any [] ∷ []) [] 0) (front_of builder.old)) }
+    ensures fits { OnOk result ((n : ℕ) → builder.new.work.next ≤ n → IsFitting n (front_of builder.old) → IsFitting n (front_of builder.new)) }
     ensures room { OnOk result (builder.new.work.next ≤ 190) }
 {
     ask_condition(alloc, link, message, scalars, builder)?;
@@ -377,6 +394,7 @@ fn ask_null(
     requires narrow { IsNarrowLink (limits_in scalars.now message.now) (arrow_of link.now) }
     requires room { builder.old.work.next ≤ 190 }
     ensures gone { OnOk result (front_of builder.new ≡ behind (asked_of (domains_in scalars.now) (graph_of message.now) (front_of builder.old).fields builder.old.work.next (arrow_of link.now ∷ []) None None (null_formula (front_of builder.old).fields ∷ []) [] 0) (front_of builder.old)) }
+    ensures fits { OnOk result ((n : ℕ) → builder.new.work.next ≤ n → IsFitting n (front_of builder.old) → IsFitting n (front_of builder.new)) }
     ensures room { OnOk result (builder.new.work.next ≤ 190) }
 {
     ask_condition(alloc, link, message, scalars, builder)?;
@@ -397,6 +415,7 @@ fn ask_whole(
     requires narrow { IsNarrowLink (limits_in scalars.now message.now) (arrow_of link.now) }
     requires room { builder.old.work.next ≤ 190 }
     ensures gone { OnOk result (front_of builder.new ≡ behind (whole_asked (domains_in scalars.now) (graph_of message.now) (front_of builder.old).fields builder.old.work.next (arrow_of link.now)) (front_of builder.old)) }
+    ensures fits { OnOk result ((n : ℕ) → builder.new.work.next ≤ n → IsFitting n (front_of builder.old) → IsFitting n (front_of builder.new)) }
     ensures room { OnOk result (builder.new.work.next ≤ 191) }
 {
     ask_condition(alloc, link, message, scalars, builder)?;
@@ -422,6 +441,7 @@ fn ask_cover_of(
     requires narrow { IsNarrowLink (limits_in scalars.now message.now) (arrow_of link.now) }
     requires room { builder.old.work.next ≤ 190 }
     ensures gone { OnOk result (front_of builder.new ≡ behind (cover_asked (domains_in scalars.now) (graph_of message.now) (overlay_of (slice_get message.now.fields.items field)) (front_of builder.old).fields builder.old.work.next (arrow_of link.now)) (front_of builder.old)) }
+    ensures fits { OnOk result ((n : ℕ) → builder.new.work.next ≤ n → IsFitting n (front_of builder.old) → IsFitting n (front_of builder.new)) }
     ensures room { OnOk result (builder.new.work.next ≤ 190) }
 {
     match overlay_of(message, field) {
@@ -442,6 +462,7 @@ fn ask_cover_to(
     requires narrow { IsNarrowLink (limits_in scalars.now message.now) (arrow_of link.now) }
     requires room { builder.old.work.next ≤ 190 }
     ensures gone { OnOk result (front_of builder.new ≡ behind (asked_link (domains_in scalars.now) (graph_of message.now) LinkCheck.Cover (front_of builder.old).fields builder.old.work.next (arrow_of link.now)) (front_of builder.old)) }
+    ensures fits { OnOk result ((n : ℕ) → builder.new.work.next ≤ n → IsFitting n (front_of builder.old) → IsFitting n (front_of builder.new)) }
     ensures room { OnOk result (builder.new.work.next ≤ 190) }
 {
     match link.target {
@@ -463,6 +484,7 @@ fn ask_overlay_of(
     requires narrow { IsNarrowLink (limits_in scalars.now message.now) (arrow_of link.now) }
     requires room { builder.old.work.next ≤ 190 }
     ensures gone { OnOk result (front_of builder.new ≡ behind (asked_link (domains_in scalars.now) (graph_of message.now) LinkCheck.Overlay (front_of builder.old).fields builder.old.work.next (arrow_of link.now)) (front_of builder.old)) }
+    ensures fits { OnOk result ((n : ℕ) → builder.new.work.next ≤ n → IsFitting n (front_of builder.old) → IsFitting n (front_of builder.new)) }
     ensures room { OnOk result (builder.new.work.next ≤ 190) }
 {
     match overlay_of(message, target_field(link)) {
@@ -486,6 +508,7 @@ fn ask_link(
     requires room { builder.old.work.next ≤ 190 }
     requires bytes { check ≡ LinkCheck.Grid → type_of (domains_in scalars.now) (graph_of message.now) (target_field (arrow_of link.now).target) ≡ None }
     ensures gone { OnOk result (front_of builder.new ≡ behind (asked_link (domains_in scalars.now) (graph_of message.now) check (front_of builder.old).fields builder.old.work.next (arrow_of link.now)) (front_of builder.old)) }
+    ensures fits { OnOk result ((n : ℕ) → builder.new.work.next ≤ n → IsFitting n (front_of builder.old) → IsFitting n (front_of builder.new)) }
     ensures room { OnOk result (builder.new.work.next ≤ 192) }
 {
     match check {
@@ -532,6 +555,7 @@ fn ask_numbered(
     requires room { builder.old.work.next ≤ 190 }
     requires bytes { check ≡ LinkCheck.Grid → HasLink (domains_in scalars.now) (graph_of message.now) node number (LeadsToBytes (domains_in scalars.now) (graph_of message.now)) }
     ensures gone { OnOk result (front_of builder.new ≡ behind (with_link (domains_in scalars.now) (graph_of message.now) (link_numbered (graph_of message.now) node number) (front_of builder.old).fields builder.old.work.next (λ l. asked_link (domains_in scalars.now) (graph_of message.now) check (front_of builder.old).fields builder.old.work.next l)) (front_of builder.old)) }
+    ensures fits { OnOk result ((n : ℕ) → builder.new.work.next ≤ n → IsFitting n (front_of builder.old) → IsFitting n (front_of builder.new)) }
     ensures room { OnOk result (builder.new.work.next ≤ 192) }
 {
     match link_numbered(message, node, number) {
@@ -554,6 +578,7 @@ fn ask_two(
     requires narrow { IsNarrowLink (limits_in scalars.now message.now) (arrow_of one.now) × IsNarrowLink (limits_in scalars.now message.now) (arrow_of other.now) }
     requires room { builder.old.work.next ≤ 190 }
     ensures gone { OnOk result (front_of builder.new ≡ behind (taken_asked (domains_in scalars.now) (graph_of message.now) (front_of builder.old).fields builder.old.work.next (arrow_of one.now ∷ arrow_of other.now ∷ [])) (front_of builder.old)) }
+    ensures fits { OnOk result ((n : ℕ) → builder.new.work.next ≤ n → IsFitting n (front_of builder.old) → IsFitting n (front_of builder.new)) }
     ensures room { OnOk result (builder.new.work.next ≤ 190) }
 {
     ask_condition(alloc, one, message, scalars, builder)?;
@@ -576,6 +601,7 @@ fn ask_other(
     requires narrow { AreNarrow (limits_in scalars.now message.now) (graph_of message.now) }
     requires room { builder.old.work.next ≤ 190 }
     ensures gone { OnOk result (front_of builder.new ≡ behind (with_link (domains_in scalars.now) (graph_of message.now) (link_numbered (graph_of message.now) node number) (front_of builder.old).fields builder.old.work.next (λ k. taken_asked (domains_in scalars.now) (graph_of message.now) (front_of builder.old).fields builder.old.work.next (arrow_of one.now ∷ k ∷ []))) (front_of builder.old)) }
+    ensures fits { OnOk result ((n : ℕ) → builder.new.work.next ≤ n → IsFitting n (front_of builder.old) → IsFitting n (front_of builder.new)) }
     ensures room { OnOk result (builder.new.work.next ≤ 192) }
 {
     match link_numbered(message, node, number) {
@@ -599,6 +625,7 @@ fn ask_both(
     requires narrow { AreNarrow (limits_in scalars.now message.now) (graph_of message.now) }
     requires room { builder.old.work.next ≤ 190 }
     ensures gone { OnOk result (front_of builder.new ≡ behind (asked_by (domains_in scalars.now) (graph_of message.now) (Goal.Exclusive node one other) (front_of builder.old).fields builder.old.work.next) (front_of builder.old)) }
+    ensures fits { OnOk result ((n : ℕ) → builder.new.work.next ≤ n → IsFitting n (front_of builder.old) → IsFitting n (front_of builder.new)) }
     ensures room { OnOk result (builder.new.work.next ≤ 192) }
 {
     match link_numbered(message, node, one) {
@@ -621,6 +648,7 @@ pub fn ask(
     requires room { builder.old.work.next ≤ 190 }
     requires goal { IsGoal (domains_in scalars.now) (graph_of message.now) goal.now }
     ensures gone { OnOk result (front_of builder.new ≡ behind (asked_by (domains_in scalars.now) (graph_of message.now) goal.now (front_of builder.old).fields builder.old.work.next) (front_of builder.old)) }
+    ensures fits { OnOk result ((n : ℕ) → builder.new.work.next ≤ n → IsFitting n (front_of builder.old) → IsFitting n (front_of builder.new)) }
     ensures room { OnOk result (builder.new.work.next ≤ 192) }
 {
     match goal {

@@ -5,7 +5,6 @@ mod asked;
 mod checklist;
 mod fault;
 mod fields;
-mod fits;
 mod formula;
 mod goal;
 mod laws;

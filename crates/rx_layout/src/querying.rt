@@ -1,7 +1,6 @@
 //! The query of a path and a goal.
 
-ghost use Rattle.std.specs.Prelude.{◌≡◌, ◌≤◌, ◌<◌, ◌&&◌, Some, IfOk, OnOk, slice_get};
-ghost use Rattle.std.specs.List.{list_all};
+ghost use Rattle.std.specs.Prelude.{◌≡◌, ℕ, ◌≤◌, ◌<◌, Some, IfOk, OnOk, slice_get};
 ghost use Rattle.rx_types.specs.Domain.{Domain, boolean};
 ghost use Rattle.rx_graph.specs.declared.message.Node.TheVariants.{Start};
 ghost use Rattle.rx_graph.specs.Cycles.{IsPath};
@@ -12,16 +11,15 @@ ghost use Rattle.rx_forms.specs.Gathered.{into_fields};
 ghost use Rattle.rx_forms.specs.Code.{domains_in, limits_in};
 ghost use Rattle.rx_forms.specs.Fronts.{front_of, first_front, after_links};
 ghost use Rattle.rx_forms.specs.PathLimit.{KeepsLimit};
-ghost use Rattle.rx_layout.specs.Fitting.{fits, fits_row};
+ghost use Rattle.rx_layout.specs.Fitting.{IsFitting};
 ghost use Rattle.rx_layout.specs.Goals.{source, IsGoal};
-ghost use Rattle.rx_layout.specs.Made.{HasSmallTypes, behind, behind_path, gathered_form};
+ghost use Rattle.rx_layout.specs.Made.{HasSmallTypes, HasProperTypes, behind_path, gathered_form};
 ghost use Rattle.rx_layout.specs.Parts.{query_of, parts_of};
 ghost use Rattle.rx_layout.specs.QueryOf.{query_for};
 
 use crate::asked::ask;
 use crate::fault::NoMemory;
 use crate::fields::{add_overlays, add_places, add_types, rows_form};
-use crate::fits::is_fitting;
 use crate::goal::Goal;
 use crate::parts::query_of_form;
 use crate::types::between;
@@ -48,6 +46,7 @@ fn gather(
     requires few { count < 190 }
     ensures gone { IfOk result (λ b. front_of b ≡ behind_path (domains_in scalars.now) (graph_of message.now) path.now goal.now) }
     ensures room { IfOk result (λ b. b.work.next ≤ 192) }
+    ensures fits { IfOk result (λ b. (n : ℕ) → b.work.next ≤ n → IsFitting n (front_of b)) }
 {
     let mut builder = start(alloc, count);
     gather_fields(alloc, path, message, scalars, &mut builder)?;
@@ -78,7 +77,7 @@ fn gathered_form(
     Ok(Form::All(forms))
 }
 
-// The query of a gathered path, if it stays within the limits of systems.
+// The query of a gathered path.
 #[tactic(none)]
 fn gathered_query(
     alloc: Global,
@@ -87,25 +86,15 @@ fn gathered_query(
     scalars: &[Scalar],
 ) -> Result<Query, NoMemory>
     requires types { HasSmallTypes (domains_in scalars.now) (graph_of message.now) }
+    requires proper { HasProperTypes (domains_in scalars.now) (graph_of message.now) }
     requires room { builder.work.next ≤ 192 }
+    requires fits { (n : ℕ) → builder.work.next ≤ n → IsFitting n (front_of builder) }
     ensures { IfOk result (λ q. q ≡ query_of builder.work.next (parts_of builder.work.next (gathered_form (domains_in scalars.now) (graph_of message.now) builder))) }
 {
     let variables = builder.work.next;
     match gathered_form(alloc, builder, message, scalars) {
-        Ok(form) => fitting_query(alloc, variables, &form),
+        Ok(form) => query_of_form(alloc, variables, &form),
         Err(_) => Err(NoMemory),
-    }
-}
-
-// The query of a fact, if it stays within the limits of systems.
-fn fitting_query(alloc: Global, variables: usize, form: &Form) -> Result<Query, NoMemory>
-    requires few { variables ≤ 192 }
-    ensures { IfOk result (λ q. q ≡ query_of variables (parts_of variables form.now)) }
-{
-    if is_fitting(variables, form) {
-        query_of_form(alloc, variables, form)
-    } else {
-        Err(NoMemory)
     }
 }
 

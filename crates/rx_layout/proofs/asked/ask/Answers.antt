@@ -29,6 +29,7 @@ returns-in-Exclusive c =
     let m = graph_of c.args.message.now in
     let front = front_of c.args.builder.now in
     record {
+      fits = c.ask_both.ensures.fits;
       gone = if_ok c.ask_both.result (λ v. front_of c.ask_both.new.builder ≡ behind (asked_by domains m (goals.Exclusive c.in-Exclusive.node c.in-Exclusive.one c.in-Exclusive.other) front.fields front.division) front) (λ v. front_of c.ask_both.new.builder ≡ behind (asked_by domains m c.args.goal.now front.fields front.division) front) (λ v h. h ∙ ap (λ (g : Goal). behind (asked_by domains m g front.fields front.division) front) (sym c.in-Exclusive.is)) c.ask_both.ensures.gone;
       room = c.ask_both.ensures.room;
     }
@@ -39,6 +40,7 @@ returns-in-Reached c =
     let m = graph_of c.args.message.now in
     let front = front_of c.args.builder.now in
     record {
+      fits = λ n r h. h;
       gone = sym (Behind.none_behind domains m front) ∙ ap (λ (g : Goal). behind (asked_by domains m g front.fields front.division) front) (sym c.in-Reached.is);
       room = omega (arith, c.requires.room);
     }
@@ -52,6 +54,7 @@ returns-in-Taken c =
     let m = graph_of c.args.message.now in
     let front = front_of c.args.builder.now in
     record {
+      fits = c.ask_numbered.ensures.fits;
       gone = if_ok c.ask_numbered.result (λ v. front_of c.ask_numbered.new.builder ≡ behind (asked_by domains m (goals.Taken c.in-Taken.node c.in-Taken.number) front.fields front.division) front) (λ v. front_of c.ask_numbered.new.builder ≡ behind (asked_by domains m c.args.goal.now front.fields front.division) front) (λ v h. h ∙ ap (λ (g : Goal). behind (asked_by domains m g front.fields front.division) front) (sym c.in-Taken.is)) c.ask_numbered.ensures.gone;
       room = c.ask_numbered.ensures.room;
     }
@@ -65,6 +68,7 @@ returns-in-Position c =
     let m = graph_of c.args.message.now in
     let front = front_of c.args.builder.now in
     record {
+      fits = c.ask_numbered-in-Position.ensures.fits;
       gone = if_ok c.ask_numbered-in-Position.result (λ v. front_of c.ask_numbered-in-Position.new.builder ≡ behind (asked_by domains m (goals.Position c.in-Position.node c.in-Position.number) front.fields front.division) front) (λ v. front_of c.ask_numbered-in-Position.new.builder ≡ behind (asked_by domains m c.args.goal.now front.fields front.division) front) (λ v h. h ∙ ap (λ (g : Goal). behind (asked_by domains m g front.fields front.division) front) (sym c.in-Position.is)) c.ask_numbered-in-Position.ensures.gone;
       room = c.ask_numbered-in-Position.ensures.room;
     }
@@ -78,6 +82,7 @@ returns-in-Grid c =
     let m = graph_of c.args.message.now in
     let front = front_of c.args.builder.now in
     record {
+      fits = c.ask_numbered-in-Grid.ensures.fits;
       gone = if_ok c.ask_numbered-in-Grid.result (λ v. front_of c.ask_numbered-in-Grid.new.builder ≡ behind (asked_by domains m (goals.Grid c.in-Grid.node c.in-Grid.number) front.fields front.division) front) (λ v. front_of c.ask_numbered-in-Grid.new.builder ≡ behind (asked_by domains m c.args.goal.now front.fields front.division) front) (λ v h. h ∙ ap (λ (g : Goal). behind (asked_by domains m g front.fields front.division) front) (sym c.in-Grid.is)) c.ask_numbered-in-Grid.ensures.gone;
       room = c.ask_numbered-in-Grid.ensures.room;
     }
@@ -91,6 +96,7 @@ returns-in-Overlay c =
     let m = graph_of c.args.message.now in
     let front = front_of c.args.builder.now in
     record {
+      fits = c.ask_numbered-in-Overlay.ensures.fits;
       gone = if_ok c.ask_numbered-in-Overlay.result (λ v. front_of c.ask_numbered-in-Overlay.new.builder ≡ behind (asked_by domains m (goals.Overlay c.in-Overlay.node c.in-Overlay.number) front.fields front.division) front) (λ v. front_of c.ask_numbered-in-Overlay.new.builder ≡ behind (asked_by domains m c.args.goal.now front.fields front.division) front) (λ v h. h ∙ ap (λ (g : Goal). behind (asked_by domains m g front.fields front.division) front) (sym c.in-Overlay.is)) c.ask_numbered-in-Overlay.ensures.gone;
       room = c.ask_numbered-in-Overlay.ensures.room;
     }
@@ -104,6 +110,7 @@ returns-in-Cover c =
     let m = graph_of c.args.message.now in
     let front = front_of c.args.builder.now in
     record {
+      fits = c.ask_numbered-in-Cover.ensures.fits;
       gone = if_ok c.ask_numbered-in-Cover.result (λ v. front_of c.ask_numbered-in-Cover.new.builder ≡ behind (asked_by domains m (goals.Cover c.in-Cover.node c.in-Cover.number) front.fields front.division) front) (λ v. front_of c.ask_numbered-in-Cover.new.builder ≡ behind (asked_by domains m c.args.goal.now front.fields front.division) front) (λ v h. h ∙ ap (λ (g : Goal). behind (asked_by domains m g front.fields front.division) front) (sym c.in-Cover.is)) c.ask_numbered-in-Cover.ensures.gone;
       room = c.ask_numbered-in-Cover.ensures.room;
     }
@@ -117,6 +124,7 @@ returns-in-Whole c =
     let m = graph_of c.args.message.now in
     let front = front_of c.args.builder.now in
     record {
+      fits = c.ask_numbered-in-Whole.ensures.fits;
       gone = if_ok c.ask_numbered-in-Whole.result (λ v. front_of c.ask_numbered-in-Whole.new.builder ≡ behind (asked_by domains m (goals.Whole c.in-Whole.node c.in-Whole.number) front.fields front.division) front) (λ v. front_of c.ask_numbered-in-Whole.new.builder ≡ behind (asked_by domains m c.args.goal.now front.fields front.division) front) (λ v h. h ∙ ap (λ (g : Goal). behind (asked_by domains m g front.fields front.division) front) (sym c.in-Whole.is)) c.ask_numbered-in-Whole.ensures.gone;
       room = c.ask_numbered-in-Whole.ensures.room;
     }

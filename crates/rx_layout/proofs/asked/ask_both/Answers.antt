@@ -28,6 +28,7 @@ returns-in-Some c =
     let m = graph_of c.args.message.now in
     let front = front_of c.args.builder.now in
     record {
+      fits = c.ask_other.ensures.fits;
       gone = if_ok c.ask_other.result _ _ (λ v h. h ∙ ap (λ (o : Option Arrow). behind (with_link domains m o front.fields front.division (λ l. with_link domains m (link_numbered m c.args.node c.args.other) front.fields front.division (λ k. taken_asked domains m front.fields front.division (l ∷ k ∷ [])))) front) (sym c.in-Some.ensures.found)) c.ask_other.ensures.gone;
       room = c.ask_other.ensures.room;
     }
@@ -38,6 +39,7 @@ returns-in-None c =
     let m = graph_of c.args.message.now in
     let front = front_of c.args.builder.now in
     record {
+      fits = λ n r h. h;
       gone = sym (Behind.none_behind domains m front) ∙ ap (λ (o : Option Arrow). behind (with_link domains m o front.fields front.division (λ l. with_link domains m (link_numbered m c.args.node c.args.other) front.fields front.division (λ k. taken_asked domains m front.fields front.division (l ∷ k ∷ [])))) front) (sym (c.in-None.ensures.none refl));
       room = omega (arith, c.requires.room);
     }

@@ -13,6 +13,13 @@ use Rattle.rx_layout.specs.Made.{after_any, after_target, formula_behind, units_
 use Rattle.rx_layout.specs.QueryOf.{goal_step, position_formula, grid_formula, overlay_formula, cover_formula, null_formula, no_multiple, unit_rows}
 use Rattle.rx_layout.proofs.Gathered.{if_ok}
 use Rattle.rx_layout.proofs.Behind
+use Rattle.std.proofs.Common.{length}
+use Rattle.rx_layout.specs.Fitting.{fits, IsLowTo, IsFitting}
+use Rattle.rx_layout.proofs.FrontsFit.{wider, each_wider, end_low}
+use Rattle.rx_layout.proofs.FormulasFit
+use Rattle.rx_layout.proofs.AskedFit
+use Rattle.rx_forms.specs.Limits.{is_within}
+use Rattle.rx_layout.proofs.Targets.{narrow_aspect}
 use Rattle.rx_layout.proofs.asked.ask_condition.Goals as goal
 
 pub add_condition-requires : goal.add_condition-requires
@@ -28,5 +35,6 @@ returns c =
     let r = c.add_condition.result in
     record {
       gone = c.add_condition.ensures.gone;
+      fits = both_ok r (λ v. new ≡ after_end domains m front link) (λ v. AskedFit.FitsStep front new) (is_within front.fields front.division link.condition ≡ true) (λ v h w. AskedFit.condition_step domains m front new link c.requires.narrow.condition h w) c.add_condition.ensures.gone c.add_condition.ensures.within;
       room = both_ok r (λ v. new ≡ after_end domains m front link) (λ v. new.division ≤ 190) _ (λ v h w. Behind.condition_room domains m front new link h w) c.add_condition.ensures.gone c.add_condition.ensures.within;
     }

@@ -32,6 +32,7 @@ returns-in-Some c =
     let link = arrow_of c.args.link.now in
     let front = front_of c.args.builder.now in
     record {
+      fits = c.ask_never.ensures.fits;
       gone = if_ok c.ask_never.result _ _ (λ v h. h ∙ ap (λ (o : Option ℕ). behind (cover_asked domains m o front.fields front.division link) front) (c.in-Some.ensures)) c.ask_never.ensures.gone;
       room = c.ask_never.ensures.room;
     }
@@ -43,6 +44,7 @@ returns-in-None c =
     let link = arrow_of c.args.link.now in
     let front = front_of c.args.builder.now in
     record {
+      fits = c.ask_cover.ensures.fits;
       gone = if_ok c.ask_cover.result _ _ (λ v h. h ∙ ap (λ (o : Option ℕ). behind (cover_asked domains m o front.fields front.division link) front) (c.in-None.ensures)) c.ask_cover.ensures.gone;
       room = c.ask_cover.ensures.room;
     }

@@ -35,6 +35,7 @@ returns-in-Start c =
     let link = arrow_of c.args.link.now in
     let front = front_of c.args.builder.now in
     record {
+      fits = c.ask_taken.ensures.fits;
       gone = if_ok c.ask_taken.result (λ v. front_of c.ask_taken.new.builder ≡ behind (cover_to domains m Start front.fields front.division link) front) (λ v. front_of c.ask_taken.new.builder ≡ behind (cover_to domains m link.target front.fields front.division link) front) (λ v h. h ∙ ap (λ (t : Node). behind (cover_to domains m t front.fields front.division link) front) (sym c.in-Start.is)) c.ask_taken.ensures.gone;
       room = c.ask_taken.ensures.room;
     }
@@ -46,6 +47,7 @@ returns-in-At c =
     let link = arrow_of c.args.link.now in
     let front = front_of c.args.builder.now in
     record {
+      fits = c.ask_cover_of.ensures.fits;
       gone = if_ok c.ask_cover_of.result (λ v. front_of c.ask_cover_of.new.builder ≡ behind (cover_to domains m (At c.in-At.field) front.fields front.division link) front) (λ v. front_of c.ask_cover_of.new.builder ≡ behind (cover_to domains m link.target front.fields front.division link) front) (λ v h. h ∙ ap (λ (t : Node). behind (cover_to domains m t front.fields front.division link) front) (sym c.in-At.is)) c.ask_cover_of.ensures.gone;
       room = c.ask_cover_of.ensures.room;
     }
@@ -57,6 +59,7 @@ returns-in-Null c =
     let link = arrow_of c.args.link.now in
     let front = front_of c.args.builder.now in
     record {
+      fits = c.ask_null.ensures.fits;
       gone = if_ok c.ask_null.result (λ v. front_of c.ask_null.new.builder ≡ behind (cover_to domains m Null front.fields front.division link) front) (λ v. front_of c.ask_null.new.builder ≡ behind (cover_to domains m link.target front.fields front.division link) front) (λ v h. h ∙ ap (λ (t : Node). behind (cover_to domains m t front.fields front.division link) front) (sym c.in-Null.is)) c.ask_null.ensures.gone;
       room = c.ask_null.ensures.room;
     }

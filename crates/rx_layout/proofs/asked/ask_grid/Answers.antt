@@ -10,23 +10,31 @@ use Rattle.rx_forms.specs.Steps.{size_aspect, first_form, size_form, end_form, t
 use Rattle.rx_forms.specs.Normal.{Formed, formed_of}
 use Rattle.rx_forms.specs.Code.{formed_all, domains_in, limits_in}
 use Rattle.rx_forms.specs.Fronts.{Front, front_of, after_end}
-use Rattle.rx_layout.specs.Made.{after_any, after_target, formula_behind, units_behind, behind}
+use Rattle.rx_layout.specs.Made.{grid_units, after_any, after_target, formula_behind, units_behind, behind}
 use Rattle.rx_layout.specs.QueryOf.{goal_step, position_formula, grid_formula, overlay_formula, cover_formula, null_formula, no_multiple, unit_rows, interval_or, rest_interval}
 use Rattle.rx_layout.proofs.Gathered.{if_ok}
 use Rattle.rx_layout.proofs.Behind
+use Rattle.std.proofs.Common.{length}
+use Rattle.rx_forms.proofs.Reaching.{both_ok}
+use Rattle.rx_forms.specs.Worked.{size_otherwise}
+use Rattle.rx_layout.specs.Fitting.{fits, IsLowTo, IsFitting}
+use Rattle.rx_layout.proofs.FrontsFit.{wider, each_wider, end_low}
+use Rattle.rx_layout.proofs.FormulasFit
+use Rattle.rx_layout.proofs.AskedFit
+use Rattle.rx_layout.proofs.Targets.{narrow_aspect}
 use Rattle.rx_layout.proofs.asked.ask_grid.Goals as goal
 
 pub ask_target-requires : goal.ask_target-requires
 ask_target-requires c = record { formable = c.requires.formable; narrow = c.requires.narrow; room = c.requires.room }
 
 pub returns-in_err-target : goal.returns-in_err-target
-returns-in_err-target c = record { gone = IfOk-from_err c.from_residual.result _ c.from_residual.ensures.0; room = IfOk-from_err c.from_residual.result _ c.from_residual.ensures.0 }
+returns-in_err-target c = record { fits = IfOk-from_err c.from_residual.result _ c.from_residual.ensures.0; gone = IfOk-from_err c.from_residual.result _ c.from_residual.ensures.0; room = IfOk-from_err c.from_residual.result _ c.from_residual.ensures.0 }
 
 pub returns-in_err-formula : goal.returns-in_err-formula
-returns-in_err-formula c = record { gone = IfOk-from_err c.from_residual-in_err-formula.result _ c.from_residual-in_err-formula.ensures.0; room = IfOk-from_err c.from_residual-in_err-formula.result _ c.from_residual-in_err-formula.ensures.0 }
+returns-in_err-formula c = record { fits = IfOk-from_err c.from_residual-in_err-formula.result _ c.from_residual-in_err-formula.ensures.0; gone = IfOk-from_err c.from_residual-in_err-formula.result _ c.from_residual-in_err-formula.ensures.0; room = IfOk-from_err c.from_residual-in_err-formula.result _ c.from_residual-in_err-formula.ensures.0 }
 
 pub returns-in_err-push_formula : goal.returns-in_err-push_formula
-returns-in_err-push_formula c = record { gone = IfOk-from_err c.from_residual-in_err-push_formula.result _ c.from_residual-in_err-push_formula.ensures.0; room = IfOk-from_err c.from_residual-in_err-push_formula.result _ c.from_residual-in_err-push_formula.ensures.0 }
+returns-in_err-push_formula c = record { fits = IfOk-from_err c.from_residual-in_err-push_formula.result _ c.from_residual-in_err-push_formula.ensures.0; gone = IfOk-from_err c.from_residual-in_err-push_formula.result _ c.from_residual-in_err-push_formula.ensures.0; room = IfOk-from_err c.from_residual-in_err-push_formula.result _ c.from_residual-in_err-push_formula.ensures.0 }
 
 pub grid_formula-requires : goal.grid_formula-requires
 grid_formula-requires c = record { few = c.in_ok-target.ensures.room }
@@ -45,8 +53,15 @@ returns c =
     let last = front_of c.push_formula.new.builder in
     let new = front_of c.push_quotients.new.builder in
     record {
-      gone = if_ok c.push_quotients.result _ _ (λ v h. Behind.grid_on domains m front mid last new link c.in_ok-target.target.first c.in_ok-target.target.size c.in_ok-formula.formula c.requires.bytes t.gone t.target c.in_ok-formula.ensures c.in_ok-push_formula.ensures h) c.push_quotients.ensures;
-      room = if_ok c.push_quotients.result _ _ (λ v h. next_room mid.division last.division new.division (ap (λ (x : Front). x.division) c.in_ok-push_formula.ensures) (ap (λ (x : Front). x.division) h) t.room) c.push_quotients.ensures;
+      gone = if_ok c.push_quotients.result _ _ (λ v h. Behind.grid_on domains m front mid last new link c.in_ok-target.target.first c.in_ok-target.target.size c.in_ok-formula.formula c.requires.bytes t.gone t.target c.in_ok-formula.ensures c.in_ok-push_formula.ensures h) c.push_quotients.ensures.gone;
+      fits = both_ok c.push_quotients.result (λ v. AskedFit.FitsStep last new) (λ v. AskedFit.FitsStep front new) (new ≡ units_behind (grid_units domains m last.division link) 2 last) (λ v p h n le fit.
+          let up = ap (λ (x : Front). x.division) h in
+          let same = ap (λ (x : Front). x.division) c.in_ok-push_formula.ensures in
+          let le_mid : mid.division ≤ n = omega (arith, up, same, le) in
+          let lows = t.low n le_mid fit in
+          p n le (AskedFit.push_fits n mid last c.in_ok-formula.formula c.in_ok-push_formula.ensures (t.fits n le_mid fit)
+          (ap (λ (x : Form). fits n x) c.in_ok-formula.ensures ∙ FormulasFit.grid_fits n mid.division c.in_ok-target.target.first c.in_ok-target.target.size lows.0 lows.1 (omega (arith, up, same, le))))) c.push_quotients.ensures.fits c.push_quotients.ensures.gone;
+      room = if_ok c.push_quotients.result _ _ (λ v h. next_room mid.division last.division new.division (ap (λ (x : Front). x.division) c.in_ok-push_formula.ensures) (ap (λ (x : Front). x.division) h) t.room) c.push_quotients.ensures.gone;
     }
   where
     next_room : (a b d : ℕ) → b ≡ a → d ≡ b + 2 → a ≤ 190 → d ≤ 192

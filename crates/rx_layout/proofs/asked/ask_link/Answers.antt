@@ -44,6 +44,7 @@ returns-in-Taken c =
     let link = arrow_of c.args.link.now in
     let front = front_of c.args.builder.now in
     record {
+      fits = c.ask_taken.ensures.fits;
       gone = if_ok c.ask_taken.result (λ v. front_of c.ask_taken.new.builder ≡ behind (asked_link domains m check.Taken front.fields front.division link) front) (λ v. front_of c.ask_taken.new.builder ≡ behind (asked_link domains m c.args.check front.fields front.division link) front) (λ v h. h ∙ ap (λ (k : LinkCheck). behind (asked_link domains m k front.fields front.division link) front) (sym c.in-Taken.is)) c.ask_taken.ensures.gone;
       room = if_ok c.ask_taken.result (λ v. c.ask_taken.new.builder.work.next ≤ 190) (λ v. c.ask_taken.new.builder.work.next ≤ 192) (λ v h. omega (arith, h)) c.ask_taken.ensures.room;
     }
@@ -55,6 +56,7 @@ returns-in-Position c =
     let link = arrow_of c.args.link.now in
     let front = front_of c.args.builder.now in
     record {
+      fits = c.ask_position.ensures.fits;
       gone = if_ok c.ask_position.result (λ v. front_of c.ask_position.new.builder ≡ behind (asked_link domains m check.Position front.fields front.division link) front) (λ v. front_of c.ask_position.new.builder ≡ behind (asked_link domains m c.args.check front.fields front.division link) front) (λ v h. h ∙ ap (λ (k : LinkCheck). behind (asked_link domains m k front.fields front.division link) front) (sym c.in-Position.is)) c.ask_position.ensures.gone;
       room = if_ok c.ask_position.result (λ v. c.ask_position.new.builder.work.next ≤ 190) (λ v. c.ask_position.new.builder.work.next ≤ 192) (λ v h. omega (arith, h)) c.ask_position.ensures.room;
     }
@@ -66,6 +68,7 @@ returns-in-Grid c =
     let link = arrow_of c.args.link.now in
     let front = front_of c.args.builder.now in
     record {
+      fits = c.ask_grid.ensures.fits;
       gone = if_ok c.ask_grid.result (λ v. front_of c.ask_grid.new.builder ≡ behind (asked_link domains m check.Grid front.fields front.division link) front) (λ v. front_of c.ask_grid.new.builder ≡ behind (asked_link domains m c.args.check front.fields front.division link) front) (λ v h. h ∙ ap (λ (k : LinkCheck). behind (asked_link domains m k front.fields front.division link) front) (sym c.in-Grid.is)) c.ask_grid.ensures.gone;
       room = c.ask_grid.ensures.room;
     }
@@ -77,6 +80,7 @@ returns-in-Overlay c =
     let link = arrow_of c.args.link.now in
     let front = front_of c.args.builder.now in
     record {
+      fits = c.ask_overlay_of.ensures.fits;
       gone = if_ok c.ask_overlay_of.result (λ v. front_of c.ask_overlay_of.new.builder ≡ behind (asked_link domains m check.Overlay front.fields front.division link) front) (λ v. front_of c.ask_overlay_of.new.builder ≡ behind (asked_link domains m c.args.check front.fields front.division link) front) (λ v h. h ∙ ap (λ (k : LinkCheck). behind (asked_link domains m k front.fields front.division link) front) (sym c.in-Overlay.is)) c.ask_overlay_of.ensures.gone;
       room = if_ok c.ask_overlay_of.result (λ v. c.ask_overlay_of.new.builder.work.next ≤ 190) (λ v. c.ask_overlay_of.new.builder.work.next ≤ 192) (λ v h. omega (arith, h)) c.ask_overlay_of.ensures.room;
     }
@@ -88,6 +92,7 @@ returns-in-Cover c =
     let link = arrow_of c.args.link.now in
     let front = front_of c.args.builder.now in
     record {
+      fits = c.ask_cover_to.ensures.fits;
       gone = if_ok c.ask_cover_to.result (λ v. front_of c.ask_cover_to.new.builder ≡ behind (asked_link domains m check.Cover front.fields front.division link) front) (λ v. front_of c.ask_cover_to.new.builder ≡ behind (asked_link domains m c.args.check front.fields front.division link) front) (λ v h. h ∙ ap (λ (k : LinkCheck). behind (asked_link domains m k front.fields front.division link) front) (sym c.in-Cover.is)) c.ask_cover_to.ensures.gone;
       room = if_ok c.ask_cover_to.result (λ v. c.ask_cover_to.new.builder.work.next ≤ 190) (λ v. c.ask_cover_to.new.builder.work.next ≤ 192) (λ v h. omega (arith, h)) c.ask_cover_to.ensures.room;
     }
@@ -99,6 +104,7 @@ returns-in-Whole c =
     let link = arrow_of c.args.link.now in
     let front = front_of c.args.builder.now in
     record {
+      fits = c.ask_whole.ensures.fits;
       gone = if_ok c.ask_whole.result (λ v. front_of c.ask_whole.new.builder ≡ behind (asked_link domains m check.Whole front.fields front.division link) front) (λ v. front_of c.ask_whole.new.builder ≡ behind (asked_link domains m c.args.check front.fields front.division link) front) (λ v h. h ∙ ap (λ (k : LinkCheck). behind (asked_link domains m k front.fields front.division link) front) (sym c.in-Whole.is)) c.ask_whole.ensures.gone;
       room = if_ok c.ask_whole.result (λ v. c.ask_whole.new.builder.work.next ≤ 191) (λ v. c.ask_whole.new.builder.work.next ≤ 192) (λ v h. omega (arith, h)) c.ask_whole.ensures.room;
     }

@@ -3,24 +3,33 @@ use Rattle.std.proofs.lemmas.Result.{IfOk-from_err, on_ok_weaker}
 use Rattle.rx_graph.specs.Graph.{graph_of, arrow_of, type_of}
 use Rattle.rx_forms.specs.declared.linear.Linear.{Linear}
 use Rattle.rx_forms.specs.declared.field.FieldForms.{FieldForms}
+use Rattle.rx_forms.specs.declared.linear.Form.{Form}
 use Rattle.rx_forms.specs.Steps.{size_aspect, first_form, size_form, end_form, target_field}
 use Rattle.rx_forms.specs.Normal.{Formed, formed_of}
 use Rattle.rx_forms.specs.Code.{formed_all, domains_in, limits_in}
 use Rattle.rx_forms.specs.Fronts.{Front, front_of, after_end}
 use Rattle.rx_layout.specs.Made.{after_any, after_target, formula_behind, units_behind, behind}
 use Rattle.rx_layout.specs.QueryOf.{goal_step, position_formula, grid_formula, overlay_formula, cover_formula, null_formula, no_multiple, unit_rows}
-use Rattle.rx_layout.proofs.Gathered.{if_ok}
+use Rattle.rx_layout.proofs.Gathered.{if_ok, fits_any}
 use Rattle.rx_layout.proofs.Behind
+use Rattle.std.proofs.Common.{length}
+use Rattle.rx_forms.proofs.Reaching.{both_ok}
+use Rattle.rx_forms.specs.Worked.{size_otherwise}
+use Rattle.rx_layout.specs.Fitting.{fits, IsLowTo, IsFitting}
+use Rattle.rx_layout.proofs.FrontsFit.{found_low, wider, each_wider, end_low}
+use Rattle.rx_layout.proofs.FormulasFit
+use Rattle.rx_layout.proofs.AskedFit
+use Rattle.rx_layout.proofs.Targets.{narrow_aspect}
 use Rattle.rx_layout.proofs.asked.ask_null.Goals as goal
 
 pub ask_condition-requires : goal.ask_condition-requires
 ask_condition-requires c = record { formable = c.requires.formable; narrow = c.requires.narrow; room = c.requires.room }
 
 pub returns-in_err-ask_condition : goal.returns-in_err-ask_condition
-returns-in_err-ask_condition c = record { gone = IfOk-from_err c.from_residual.result _ c.from_residual.ensures.0; room = IfOk-from_err c.from_residual.result _ c.from_residual.ensures.0 }
+returns-in_err-ask_condition c = record { fits = IfOk-from_err c.from_residual.result _ c.from_residual.ensures.0; gone = IfOk-from_err c.from_residual.result _ c.from_residual.ensures.0; room = IfOk-from_err c.from_residual.result _ c.from_residual.ensures.0 }
 
 pub returns-in_err-formula : goal.returns-in_err-formula
-returns-in_err-formula c = record { gone = IfOk-from_err c.from_residual-in_err-formula.result _ c.from_residual-in_err-formula.ensures.0; room = IfOk-from_err c.from_residual-in_err-formula.result _ c.from_residual-in_err-formula.ensures.0 }
+returns-in_err-formula c = record { fits = IfOk-from_err c.from_residual-in_err-formula.result _ c.from_residual-in_err-formula.ensures.0; gone = IfOk-from_err c.from_residual-in_err-formula.result _ c.from_residual-in_err-formula.ensures.0; room = IfOk-from_err c.from_residual-in_err-formula.result _ c.from_residual-in_err-formula.ensures.0 }
 
 pub returns : goal.returns
 returns c =
@@ -31,7 +40,14 @@ returns c =
     let t = c.in_ok-ask_condition.ensures in
     let mid = front_of c.ask_condition.new.builder in
     let formula = c.in_ok-formula.ensures ∙ ap (λ (fs : List FieldForms). null_formula (formed_all fs)) c.as_slice.ensures.value ∙ ap (λ (y : Front). null_formula y.fields) t.gone in
+    let new = front_of c.push_formula.new.builder in
+    let c_formula = c.in_ok-formula.formula in
     record {
       gone = if_ok c.push_formula.result _ _ (λ v h. Behind.formula_on mid _ _ _ _ h t.gone formula ∙ Behind.only_formula domains m front link (null_formula front.fields)) c.push_formula.ensures;
+      fits = if_ok c.push_formula.result (λ v. new ≡ formula_behind (c_formula ∷ []) mid) (λ v. AskedFit.FitsStep front new) (λ v h n le fit.
+          let up = ap (λ (x : Front). x.division) h in
+          let le_mid : mid.division ≤ n = omega (arith, up, le) in
+          let mid_fits = t.fits n le_mid fit in
+          AskedFit.push_fits n mid new c_formula h mid_fits (ap (λ (x : Form). fits n x) (c.in_ok-formula.ensures ∙ ap (λ (fs : List FieldForms). null_formula (formed_all fs)) c.as_slice.ensures.value) ∙ FormulasFit.null_fits n mid.fields (each_wider mid.division n mid.fields le_mid mid_fits.fields))) c.push_formula.ensures;
       room = if_ok c.push_formula.result _ _ (λ v h. subst (λ (k : ℕ). k ≤ 190) (sym (ap (λ (y : Front). y.division) h)) t.room) c.push_formula.ensures;
     }

@@ -38,6 +38,7 @@ returns-in-Some c =
     let m = graph_of c.args.message.now in
     let front = front_of c.args.builder.now in
     record {
+      fits = c.ask_link.ensures.fits;
       gone = if_ok c.ask_link.result (λ v. front_of c.ask_link.new.builder ≡ behind (with_link domains m (Some (arrow_of c.in-Some.link.now)) front.fields front.division (λ l. asked_link domains m c.args.check front.fields front.division l)) front) (λ v. front_of c.ask_link.new.builder ≡ behind (with_link domains m (link_numbered m c.args.node c.args.number) front.fields front.division (λ l. asked_link domains m c.args.check front.fields front.division l)) front) (λ v h. h ∙ ap (λ (o : Option Arrow). behind (with_link domains m o front.fields front.division (λ l. asked_link domains m c.args.check front.fields front.division l)) front) (sym c.in-Some.ensures.found)) c.ask_link.ensures.gone;
       room = c.ask_link.ensures.room;
     }
@@ -48,6 +49,7 @@ returns-in-None c =
     let m = graph_of c.args.message.now in
     let front = front_of c.args.builder.now in
     record {
+      fits = λ n r h. h;
       gone = sym (Behind.none_behind domains m front) ∙ ap (λ (o : Option Arrow). behind (with_link domains m o front.fields front.division (λ l. asked_link domains m c.args.check front.fields front.division l)) front) (sym (c.in-None.ensures.none refl));
       room = omega (arith, c.requires.room);
     }

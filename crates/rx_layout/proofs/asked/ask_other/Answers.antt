@@ -38,6 +38,7 @@ returns-in-Some c =
     let front = front_of c.args.builder.now in
     let one = arrow_of c.args.one.now in
     record {
+      fits = c.ask_two.ensures.fits;
       gone = if_ok c.ask_two.result _ _ (λ v h. h ∙ ap (λ (o : Option Arrow). behind (with_link domains m o front.fields front.division (λ k. taken_asked domains m front.fields front.division (one ∷ k ∷ []))) front) (sym c.in-Some.ensures.found)) c.ask_two.ensures.gone;
       room = if_ok c.ask_two.result (λ v. c.ask_two.new.builder.work.next ≤ 190) (λ v. c.ask_two.new.builder.work.next ≤ 192) (λ v h. omega (arith, h)) c.ask_two.ensures.room;
     }
@@ -49,6 +50,7 @@ returns-in-None c =
     let front = front_of c.args.builder.now in
     let one = arrow_of c.args.one.now in
     record {
+      fits = λ n r h. h;
       gone = sym (Behind.none_behind domains m front) ∙ ap (λ (o : Option Arrow). behind (with_link domains m o front.fields front.division (λ k. taken_asked domains m front.fields front.division (one ∷ k ∷ []))) front) (sym (c.in-None.ensures.none refl));
       room = omega (arith, c.requires.room);
     }

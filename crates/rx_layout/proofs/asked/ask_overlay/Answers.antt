@@ -3,27 +3,36 @@ use Rattle.std.proofs.lemmas.Result.{IfOk-from_err, on_ok_weaker}
 use Rattle.rx_graph.specs.Graph.{graph_of, arrow_of, type_of}
 use Rattle.rx_forms.specs.declared.linear.Linear.{Linear}
 use Rattle.rx_forms.specs.declared.field.FieldForms.{FieldForms}
+use Rattle.rx_forms.specs.declared.linear.Form.{Form}
 use Rattle.rx_forms.specs.Steps.{size_aspect, first_form, size_form, end_form, target_field}
 use Rattle.rx_forms.specs.Normal.{Formed, formed_of}
 use Rattle.rx_forms.specs.Code.{formed_all, domains_in, limits_in}
 use Rattle.rx_forms.specs.Fronts.{Front, front_of, after_end}
 use Rattle.rx_layout.specs.Made.{after_any, after_target, formula_behind, units_behind, behind}
 use Rattle.rx_layout.specs.QueryOf.{goal_step, position_formula, grid_formula, overlay_formula, cover_formula, null_formula, no_multiple, unit_rows}
-use Rattle.rx_layout.proofs.Gathered.{if_ok}
+use Rattle.rx_layout.proofs.Gathered.{if_ok, fits_any}
 use Rattle.rx_layout.proofs.Behind
+use Rattle.std.proofs.Common.{length}
+use Rattle.rx_forms.proofs.Reaching.{both_ok}
+use Rattle.rx_forms.specs.Worked.{size_otherwise}
+use Rattle.rx_layout.specs.Fitting.{fits, IsLowTo, IsFitting}
+use Rattle.rx_layout.proofs.FrontsFit.{found_low, wider, each_wider, end_low}
+use Rattle.rx_layout.proofs.FormulasFit
+use Rattle.rx_layout.proofs.AskedFit
+use Rattle.rx_layout.proofs.Targets.{narrow_aspect}
 use Rattle.rx_layout.proofs.asked.ask_overlay.Goals as goal
 
 pub ask_target-requires : goal.ask_target-requires
 ask_target-requires c = record { formable = c.requires.formable; narrow = c.requires.narrow; room = c.requires.room }
 
 pub returns-in_err-target : goal.returns-in_err-target
-returns-in_err-target c = record { gone = IfOk-from_err c.from_residual.result _ c.from_residual.ensures.0; room = IfOk-from_err c.from_residual.result _ c.from_residual.ensures.0 }
+returns-in_err-target c = record { fits = IfOk-from_err c.from_residual.result _ c.from_residual.ensures.0; gone = IfOk-from_err c.from_residual.result _ c.from_residual.ensures.0; room = IfOk-from_err c.from_residual.result _ c.from_residual.ensures.0 }
 
 pub returns-in_err-below : goal.returns-in_err-below
-returns-in_err-below c = record { gone = IfOk-from_err c.from_residual-in_err-below.result _ c.from_residual-in_err-below.ensures.0; room = IfOk-from_err c.from_residual-in_err-below.result _ c.from_residual-in_err-below.ensures.0 }
+returns-in_err-below c = record { fits = IfOk-from_err c.from_residual-in_err-below.result _ c.from_residual-in_err-below.ensures.0; gone = IfOk-from_err c.from_residual-in_err-below.result _ c.from_residual-in_err-below.ensures.0; room = IfOk-from_err c.from_residual-in_err-below.result _ c.from_residual-in_err-below.ensures.0 }
 
 pub returns-in_err-formula : goal.returns-in_err-formula
-returns-in_err-formula c = record { gone = IfOk-from_err c.from_residual-in_err-formula.result _ c.from_residual-in_err-formula.ensures.0; room = IfOk-from_err c.from_residual-in_err-formula.result _ c.from_residual-in_err-formula.ensures.0 }
+returns-in_err-formula c = record { fits = IfOk-from_err c.from_residual-in_err-formula.result _ c.from_residual-in_err-formula.ensures.0; gone = IfOk-from_err c.from_residual-in_err-formula.result _ c.from_residual-in_err-formula.ensures.0; room = IfOk-from_err c.from_residual-in_err-formula.result _ c.from_residual-in_err-formula.ensures.0 }
 
 pub returns : goal.returns
 returns c =
@@ -39,7 +48,14 @@ returns c =
     let below = c.in_ok-below.ensures ∙ ap (λ (fs : List FieldForms). (formed_of x (formed_all fs)).size) c.as_slice.ensures.value ∙ ap (λ (y : Front). (formed_of x y.fields).size) t.gone in
     let formula = c.in_ok-formula.ensures ∙ ap (λ (y : Linear). overlay_formula y c.in_ok-below.below) t.target.extends ∙ ap (λ (y : Linear). overlay_formula (size_form type step) y) below in
     let end = Behind.one_formula domains m front link link.first (size_aspect type link.size) (overlay_formula (size_form type step) (formed_of x front.fields).size) in
+    let new = front_of c.push_formula.new.builder in
+    let c_formula = c.in_ok-formula.formula in
     record {
       gone = if_ok c.push_formula.result _ _ (λ v h. Behind.formula_on mid _ _ _ _ h t.gone formula ∙ end) c.push_formula.ensures;
+      fits = if_ok c.push_formula.result (λ v. new ≡ formula_behind (c_formula ∷ []) mid) (λ v. AskedFit.FitsStep front new) (λ v h n le fit.
+          let up = ap (λ (x : Front). x.division) h in
+          let le_mid : mid.division ≤ n = omega (arith, up, le) in
+          let mid_fits = t.fits n le_mid fit in
+          AskedFit.push_fits n mid new c_formula h mid_fits (let lows = t.low n le_mid fit in let a = wider mid.division n c.in_ok-target.target.first le_mid lows.0 in let b = wider mid.division n c.in_ok-target.target.size le_mid lows.1 in ap (λ (x : Form). fits n x) c.in_ok-formula.ensures ∙ FormulasFit.unequal_fits n c.in_ok-target.target.size c.in_ok-below.below b (subst (λ (y : Linear). IsLowTo n y) (sym (c.in_ok-below.ensures ∙ ap (λ (fs : List FieldForms). (formed_of x (formed_all fs)).size) c.as_slice.ensures.value)) (wider mid.division n (formed_of x mid.fields).size le_mid (found_low mid.division mid.fields x mid_fits.fields).size)))) c.push_formula.ensures;
       room = if_ok c.push_formula.result _ _ (λ v h. subst (λ (k : ℕ). k ≤ 190) (sym (ap (λ (y : Front). y.division) h)) t.room) c.push_formula.ensures;
     }

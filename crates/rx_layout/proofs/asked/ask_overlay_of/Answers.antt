@@ -32,6 +32,7 @@ returns-in-Some c =
     let link = arrow_of c.args.link.now in
     let front = front_of c.args.builder.now in
     record {
+      fits = c.ask_overlay.ensures.fits;
       gone = if_ok c.ask_overlay.result _ _ (λ v h. h ∙ ap (λ (o : Option ℕ). behind (overlay_on domains m o front.fields front.division link) front) (c.in-Some.ensures ∙ ap (λ (f : ℕ). overlay_of (slice_get c.args.message.now.fields.items f)) c.target_field.ensures)) c.ask_overlay.ensures.gone;
       room = c.ask_overlay.ensures.room;
     }
@@ -43,6 +44,7 @@ returns-in-None c =
     let link = arrow_of c.args.link.now in
     let front = front_of c.args.builder.now in
     record {
+      fits = c.ask_taken.ensures.fits;
       gone = if_ok c.ask_taken.result _ _ (λ v h. h ∙ ap (λ (o : Option ℕ). behind (overlay_on domains m o front.fields front.division link) front) (c.in-None.ensures ∙ ap (λ (f : ℕ). overlay_of (slice_get c.args.message.now.fields.items f)) c.target_field.ensures)) c.ask_taken.ensures.gone;
       room = c.ask_taken.ensures.room;
     }

@@ -11,6 +11,14 @@ use Rattle.rx_layout.specs.Made.{after_any, after_target, formula_behind, units_
 use Rattle.rx_layout.specs.QueryOf.{goal_step, position_formula, grid_formula, overlay_formula, cover_formula, null_formula, no_multiple, unit_rows}
 use Rattle.rx_layout.proofs.Gathered.{if_ok}
 use Rattle.rx_layout.proofs.Behind
+use Rattle.std.proofs.Common.{length}
+use Rattle.rx_forms.proofs.Reaching.{both_ok}
+use Rattle.rx_forms.specs.Worked.{size_otherwise}
+use Rattle.rx_layout.specs.Fitting.{fits, IsLowTo, IsFitting}
+use Rattle.rx_layout.proofs.FrontsFit.{wider, each_wider, end_low}
+use Rattle.rx_layout.proofs.FormulasFit
+use Rattle.rx_layout.proofs.AskedFit
+use Rattle.rx_layout.proofs.Targets.{narrow_aspect}
 use Rattle.rx_layout.proofs.asked.ask_taken.Goals as goal
 
 pub ask_condition-requires : goal.ask_condition-requires
@@ -24,5 +32,6 @@ returns c =
     let front = front_of c.args.builder.now in
     record {
       gone = if_ok c.ask_condition.result _ _ (λ v h. h ∙ sym (Behind.taken_behind domains m front link)) c.ask_condition.ensures.gone;
+      fits = c.ask_condition.ensures.fits;
       room = c.ask_condition.ensures.room;
     }

@@ -13,6 +13,12 @@ use Rattle.rx_layout.specs.Made.{after_any, after_target, formula_behind, units_
 use Rattle.rx_layout.specs.QueryOf.{goal_step, position_formula, grid_formula, overlay_formula, cover_formula, null_formula, no_multiple, unit_rows}
 use Rattle.rx_layout.proofs.Gathered.{if_ok}
 use Rattle.rx_layout.proofs.Behind
+use Rattle.std.proofs.Common.{length}
+use Rattle.rx_layout.specs.Fitting.{fits, IsLowTo, IsFitting}
+use Rattle.rx_layout.proofs.FrontsFit.{wider, each_wider, end_low}
+use Rattle.rx_layout.proofs.FormulasFit
+use Rattle.rx_layout.proofs.AskedFit
+use Rattle.rx_layout.proofs.Targets.{narrow_aspect}
 use Rattle.rx_layout.proofs.asked.ask_target.Goals as goal
 
 pub ask_first-requires : goal.ask_first-requires
@@ -22,6 +28,8 @@ pub returns-in_err-first : goal.returns-in_err-first
 returns-in_err-first c =
     record {
       target = IfOk-from_err c.from_residual.result _ c.from_residual.ensures.0;
+      fits = IfOk-from_err c.from_residual.result _ c.from_residual.ensures.0;
+      low = IfOk-from_err c.from_residual.result _ c.from_residual.ensures.0;
       gone = IfOk-from_err c.from_residual.result _ c.from_residual.ensures.0;
       room = IfOk-from_err c.from_residual.result _ c.from_residual.ensures.0;
     }
@@ -33,6 +41,8 @@ pub returns-in_err-size : goal.returns-in_err-size
 returns-in_err-size c =
     record {
       target = IfOk-from_err c.from_residual-in_err-size.result _ c.from_residual-in_err-size.ensures.0;
+      fits = IfOk-from_err c.from_residual-in_err-size.result _ c.from_residual-in_err-size.ensures.0;
+      low = IfOk-from_err c.from_residual-in_err-size.result _ c.from_residual-in_err-size.ensures.0;
       gone = IfOk-from_err c.from_residual-in_err-size.result _ c.from_residual-in_err-size.ensures.0;
       room = IfOk-from_err c.from_residual-in_err-size.result _ c.from_residual-in_err-size.ensures.0;
     }
@@ -48,6 +58,8 @@ returns c =
     let first = c.in_ok-first.first in
     let f = c.in_ok-first.ensures in
     let s = c.in_ok-size.ensures in
+    let new = front_of c.target_size.new.builder in
+    let up : mid.division ≤ new.division = let e = ap (λ (x : Front). x.division) s.gone in omega (arith, e) in
     let field = ap (λ (x : ℕ). type_of domains m x) c.target_field-field.ensures in
     record {
       target = record {
@@ -55,5 +67,10 @@ returns c =
         extends = s.size ∙ ap (λ (t : Option Domain). size_behind t first link.size mid) field ∙ Behind.size_is domains m type front mid link first f.gone f.first;
       };
       gone = s.gone ∙ ap (λ (t : Option Domain). after_any domains m (size_aspect t link.size) mid) field ∙ ap (λ (x : Front). after_any domains m (size_aspect type link.size) x) f.gone;
+      fits = AskedFit.then_step front mid new f.fits s.fits up;
+      low = λ n le fit.
+          let mid_fits = f.fits n (omega (arith, up, le)) fit in
+          let first_low = f.low n (omega (arith, up, le)) fit in
+          (wider mid.division new.division first up first_low, s.low n le mid_fits first_low.short);
       room = s.room;
     }

@@ -14,22 +14,30 @@ use Rattle.rx_layout.specs.Made.{after_any, after_target, formula_behind, units_
 use Rattle.rx_layout.specs.QueryOf.{goal_step, position_formula, grid_formula, overlay_formula, cover_formula, null_formula, no_multiple, unit_rows, interval_or, rest_interval}
 use Rattle.rx_layout.proofs.Gathered.{if_ok}
 use Rattle.rx_layout.proofs.Behind
+use Rattle.std.proofs.Common.{length}
+use Rattle.rx_forms.proofs.Reaching.{both_ok}
+use Rattle.rx_forms.specs.Worked.{size_otherwise}
+use Rattle.rx_layout.specs.Fitting.{fits, IsLowTo, IsFitting}
+use Rattle.rx_layout.proofs.FrontsFit.{wider, each_wider, end_low}
+use Rattle.rx_layout.proofs.FormulasFit
+use Rattle.rx_layout.proofs.AskedFit
+use Rattle.rx_layout.proofs.Targets.{narrow_aspect}
 use Rattle.rx_layout.proofs.asked.ask_whole.Goals as goal
 
 pub ask_condition-requires : goal.ask_condition-requires
 ask_condition-requires c = record { formable = c.requires.formable; narrow = c.requires.narrow; room = c.requires.room }
 
 pub returns-in_err-ask_condition : goal.returns-in_err-ask_condition
-returns-in_err-ask_condition c = record { gone = IfOk-from_err c.from_residual.result _ c.from_residual.ensures.0; room = IfOk-from_err c.from_residual.result _ c.from_residual.ensures.0 }
+returns-in_err-ask_condition c = record { fits = IfOk-from_err c.from_residual.result _ c.from_residual.ensures.0; gone = IfOk-from_err c.from_residual.result _ c.from_residual.ensures.0; room = IfOk-from_err c.from_residual.result _ c.from_residual.ensures.0 }
 
 pub returns-in_err-end : goal.returns-in_err-end
-returns-in_err-end c = record { gone = IfOk-from_err c.from_residual-in_err-end.result _ c.from_residual-in_err-end.ensures.0; room = IfOk-from_err c.from_residual-in_err-end.result _ c.from_residual-in_err-end.ensures.0 }
+returns-in_err-end c = record { fits = IfOk-from_err c.from_residual-in_err-end.result _ c.from_residual-in_err-end.ensures.0; gone = IfOk-from_err c.from_residual-in_err-end.result _ c.from_residual-in_err-end.ensures.0; room = IfOk-from_err c.from_residual-in_err-end.result _ c.from_residual-in_err-end.ensures.0 }
 
 pub returns-in_err-formula : goal.returns-in_err-formula
-returns-in_err-formula c = record { gone = IfOk-from_err c.from_residual-in_err-formula.result _ c.from_residual-in_err-formula.ensures.0; room = IfOk-from_err c.from_residual-in_err-formula.result _ c.from_residual-in_err-formula.ensures.0 }
+returns-in_err-formula c = record { fits = IfOk-from_err c.from_residual-in_err-formula.result _ c.from_residual-in_err-formula.ensures.0; gone = IfOk-from_err c.from_residual-in_err-formula.result _ c.from_residual-in_err-formula.ensures.0; room = IfOk-from_err c.from_residual-in_err-formula.result _ c.from_residual-in_err-formula.ensures.0 }
 
 pub returns-in_err-push_formula : goal.returns-in_err-push_formula
-returns-in_err-push_formula c = record { gone = IfOk-from_err c.from_residual-in_err-push_formula.result _ c.from_residual-in_err-push_formula.ensures.0; room = IfOk-from_err c.from_residual-in_err-push_formula.result _ c.from_residual-in_err-push_formula.ensures.0 }
+returns-in_err-push_formula c = record { fits = IfOk-from_err c.from_residual-in_err-push_formula.result _ c.from_residual-in_err-push_formula.ensures.0; gone = IfOk-from_err c.from_residual-in_err-push_formula.result _ c.from_residual-in_err-push_formula.ensures.0; room = IfOk-from_err c.from_residual-in_err-push_formula.result _ c.from_residual-in_err-push_formula.ensures.0 }
 
 pub push_quotient-requires : goal.push_quotient-requires
 push_quotient-requires c = let e = ap (λ (x : Front). x.division) c.in_ok-push_formula.ensures in record { short = c.places.ensures.short; room = omega (arith, e, c.in_ok-ask_condition.ensures.room) }
@@ -47,6 +55,14 @@ returns c =
     let t = c.in_ok-ask_condition.ensures in
     record {
       gone = if_ok c.push_quotient.result _ _ (λ v h. Behind.whole_on domains m front mid last new link c.in_ok-end.end c.in_ok-formula.formula t.gone end c.in_ok-formula.ensures c.in_ok-push_formula.ensures (h ∙ ap (λ (i : Interval). units_behind (unit_rows last.division i) 1 last) c.places.ensures.value)) c.push_quotient.ensures;
+      fits = if_ok c.push_quotient.result (λ v. new ≡ units_behind (unit_rows last.division c.places.result) 1 last) (λ v. AskedFit.FitsStep front new) (λ v h n le fit.
+          let up = ap (λ (x : Front). x.division) h in
+          let same = ap (λ (x : Front). x.division) c.in_ok-push_formula.ensures in
+          let le_mid : mid.division ≤ n = omega (arith, up, same, le) in
+          let mid_fits = t.fits n le_mid fit in
+          let low = subst (λ (y : Linear). IsLowTo mid.division y) (sym end) (end_low mid.division mid.fields mid_fits.fields) in
+          AskedFit.units_step last new c.places.result c.places.ensures.short h n le (AskedFit.push_fits n mid last c.in_ok-formula.formula c.in_ok-push_formula.ensures mid_fits
+          (ap (λ (x : Form). fits n x) c.in_ok-formula.ensures ∙ FormulasFit.no_multiple_fits n mid.division c.in_ok-end.end low (omega (arith, up, same, le))))) c.push_quotient.ensures;
       room = if_ok c.push_quotient.result _ _ (λ v h. next_room mid.division last.division new.division (ap (λ (x : Front). x.division) c.in_ok-push_formula.ensures) (ap (λ (x : Front). x.division) h) t.room) c.push_quotient.ensures;
     }
   where

@@ -1,4 +1,4 @@
-use Rattle.std.proofs.Common.{◌≡◌, refl, sym, ap, ◌∙◌, subst, ◌≤◌, ◌+◌, arith, List, [], ◌∷◌, true, IfOk, OnOk, Option, Some, None}
+use Rattle.std.proofs.Common.{◌≡◌, ℕ, refl, sym, ap, ◌∙◌, subst, ◌≤◌, ◌+◌, arith, List, [], ◌∷◌, true, IfOk, OnOk, Option, Some, None}
 use Rattle.std.proofs.lemmas.Result.{IfOk-from_err, on_ok_weaker}
 use Rattle.rx_types.specs.Domain.{Domain}
 use Rattle.rx_graph.specs.Graph.{graph_of, arrow_of, type_of}
@@ -13,6 +13,12 @@ use Rattle.rx_layout.specs.Made.{after_any, after_target, formula_behind, units_
 use Rattle.rx_layout.specs.QueryOf.{goal_step, position_formula, grid_formula, overlay_formula, cover_formula, null_formula, no_multiple, unit_rows}
 use Rattle.rx_layout.proofs.Gathered.{if_ok}
 use Rattle.rx_layout.proofs.Behind
+use Rattle.std.proofs.Common.{length}
+use Rattle.rx_layout.specs.Fitting.{fits, IsLowTo, IsFitting}
+use Rattle.rx_layout.proofs.FrontsFit.{wider, each_wider, end_low}
+use Rattle.rx_layout.proofs.FormulasFit
+use Rattle.rx_layout.proofs.AskedFit
+use Rattle.rx_layout.proofs.Targets.{narrow_aspect}
 use Rattle.rx_layout.proofs.asked.target_first.Goals as goal
 
 pub first_form-requires-clause-numeric : goal.first_form-requires-clause-numeric
@@ -39,5 +45,7 @@ returns c =
     record {
       first = if_ok r has (λ f. f ≡ form_or link.first front.fields front.division (end_form front.fields)) (λ f h. h.value) a;
       gone = if_ok r has (λ f. record front { division = w1.next; rows = w1.rows } ≡ after_any domains m link.first front) (λ f h. Behind.aspect_behind domains m front link.first w1.next w1.rows h.next h.rows) a;
+      fits = if_ok r has (λ f. AskedFit.FitsStep front (record front { division = w1.next; rows = w1.rows })) (λ f h. AskedFit.aspect_step domains m front (record front { division = w1.next; rows = w1.rows }) link.first (form_or link.first front.fields front.division (end_form front.fields)) c.requires.narrow.first (Behind.aspect_behind domains m front link.first w1.next w1.rows h.next h.rows) h.within) a;
+      low = if_ok r has (λ f. (n : ℕ) → w1.next ≤ n → IsFitting n front → IsLowTo w1.next f) (λ f h n le fit. AskedFit.aspect_low front link.first (end_form front.fields) f w1.next h.next h.value h.within n fit (let e = (end_low front.division front.fields fit.fields).short in omega (arith, e))) a;
       room = if_ok r has (λ f. w1.next ≤ 190) (λ f h. Behind.aspect_room front.fields w0.next w1.next link.first (form_or link.first front.fields front.division (end_form front.fields)) h.next h.within) a;
     }

@@ -1,4 +1,4 @@
-use Rattle.std.proofs.Common.{◌≡◌, refl, sym, ap, ◌∙◌, subst, ◌≤◌, ◌+◌, arith, List, [], ◌∷◌, true, IfOk, OnOk, Option, Some, None}
+use Rattle.std.proofs.Common.{◌≡◌, ℕ, refl, sym, ap, ◌∙◌, subst, ◌≤◌, ◌+◌, arith, List, [], ◌∷◌, true, IfOk, OnOk, Option, Some, None}
 use Rattle.std.proofs.lemmas.Result.{IfOk-from_err, on_ok_weaker}
 use Rattle.rx_types.specs.Domain.{Domain}
 use Rattle.rx_graph.specs.Graph.{graph_of, arrow_of, type_of}
@@ -13,6 +13,12 @@ use Rattle.rx_layout.specs.Made.{after_any, after_target, formula_behind, units_
 use Rattle.rx_layout.specs.QueryOf.{goal_step, position_formula, grid_formula, overlay_formula, cover_formula, null_formula, no_multiple, unit_rows}
 use Rattle.rx_layout.proofs.Gathered.{if_ok}
 use Rattle.rx_layout.proofs.Behind
+use Rattle.std.proofs.Common.{length}
+use Rattle.rx_layout.specs.Fitting.{fits, IsLowTo, IsFitting}
+use Rattle.rx_layout.proofs.FrontsFit.{wider, each_wider, end_low}
+use Rattle.rx_layout.proofs.FormulasFit
+use Rattle.rx_layout.proofs.AskedFit
+use Rattle.rx_layout.proofs.Targets.{narrow_aspect}
 use Rattle.rx_layout.proofs.asked.target_size.Goals as goal
 
 pub size_form-requires-clause-numeric : goal.size_form-requires-clause-numeric
@@ -42,5 +48,7 @@ returns c =
     record {
       size = if_ok r has (λ f. f ≡ form_or aspect front.fields front.division other) (λ f h. h.value) a;
       gone = if_ok r has (λ f. record front { division = w1.next; rows = w1.rows } ≡ after_any domains m aspect front) (λ f h. Behind.aspect_behind domains m front aspect w1.next w1.rows h.next h.rows) a;
+      fits = if_ok r has (λ f. AskedFit.FitsStep front (record front { division = w1.next; rows = w1.rows })) (λ f h. AskedFit.aspect_step domains m front (record front { division = w1.next; rows = w1.rows }) aspect (form_or aspect front.fields front.division other) (narrow_aspect limit type size c.requires.narrow.size) (Behind.aspect_behind domains m front aspect w1.next w1.rows h.next h.rows) h.within) a;
+      low = if_ok r has (λ f. (n : ℕ) → w1.next ≤ n → IsFitting n front → length c.args.first.now.coefficients ≤ w0.next → IsLowTo w1.next f) (λ f h n le fit w. AskedFit.aspect_low front aspect other f w1.next h.next h.value h.within n fit (AskedFit.other_width type c.args.first.now size w0.next fit.some w)) a;
       room = if_ok r has (λ f. w1.next ≤ 190) (λ f h. Behind.aspect_room front.fields w0.next w1.next aspect (form_or aspect front.fields front.division other) h.next h.within) a;
     }

@@ -8,6 +8,7 @@ use Rattle.rx_forms.specs.Fronts.{Front, front_of, first_front, after_links}
 use Rattle.rx_forms.proofs.Looping
 use Rattle.rx_layout.specs.Made.{behind}
 use Rattle.rx_layout.specs.QueryOf.{asked_by}
+use Rattle.rx_layout.proofs.AskedFit.{asked_fits}
 use Rattle.rx_layout.proofs.querying.gather.Goals as goal
 
 few_ends : (s n t : ℕ) → s ≡ 1 → n ≡ t → n < 190 → s + t ≤ 190
@@ -30,7 +31,7 @@ gather_fields-requires c =
     }
 
 pub returns-in_err-gather_fields : goal.returns-in_err-gather_fields
-returns-in_err-gather_fields c = record { gone = IfOk-from_err c.from_residual.result _ c.from_residual.ensures.0; room = IfOk-from_err c.from_residual.result _ c.from_residual.ensures.0 }
+returns-in_err-gather_fields c = record { fits = IfOk-from_err c.from_residual.result _ c.from_residual.ensures.0; gone = IfOk-from_err c.from_residual.result _ c.from_residual.ensures.0; room = IfOk-from_err c.from_residual.result _ c.from_residual.ensures.0 }
 
 pub ask-requires : goal.ask-requires
 ask-requires c =
@@ -47,7 +48,7 @@ ask-requires c =
     }
 
 pub returns-in_err-ask : goal.returns-in_err-ask
-returns-in_err-ask c = record { gone = IfOk-from_err c.from_residual-in_err-ask.result _ c.from_residual-in_err-ask.ensures.0; room = IfOk-from_err c.from_residual-in_err-ask.result _ c.from_residual-in_err-ask.ensures.0 }
+returns-in_err-ask c = record { fits = IfOk-from_err c.from_residual-in_err-ask.result _ c.from_residual-in_err-ask.ensures.0; gone = IfOk-from_err c.from_residual-in_err-ask.result _ c.from_residual-in_err-ask.ensures.0; room = IfOk-from_err c.from_residual-in_err-ask.result _ c.from_residual-in_err-ask.ensures.0 }
 
 pub returns : goal.returns
 returns c =
@@ -58,4 +59,5 @@ returns c =
     record {
       gone = c.in_ok-ask.ensures.gone ∙ ap (λ (x : Front). behind (asked_by domains m c.args.goal.now x.fields x.division) x) (c.in_ok-gather_fields.ensures.gone ∙ ap (λ (x : Front). after_links domains m x links) e);
       room = c.in_ok-ask.ensures.room;
+      fits = λ n r. asked_fits domains m n c.args.count c.args.path.now c.args.goal.now (front_of c.start-builder.result) (front_of c.gather_fields.new.builder) (front_of c.ask.new.builder) c.requires.narrow c.start-builder.ensures c.requires.count c.in_ok-gather_fields.ensures.gone c.in_ok-gather_fields.ensures.within c.in_ok-ask.ensures.gone c.in_ok-ask.ensures.fits r;
     }

@@ -1,19 +1,29 @@
-use Rattle.std.proofs.Common.{◌≡◌, ap, ◌∙◌}
+use Rattle.std.proofs.Common.{◌≡◌, sym, subst, ap, ◌∙◌, ◌≤◌, arith, true}
+use Rattle.rx_graph.specs.Graph.{graph_of}
 use Rattle.rx_forms.specs.declared.linear.Form.{Form}
+use Rattle.rx_forms.specs.Code.{domains_in}
+use Rattle.rx_layout.specs.Fitting.{fits}
 use Rattle.rx_layout.specs.Parts.{query_of, parts_of}
 use Rattle.rx_layout.proofs.Gathered.{if_ok}
+use Rattle.rx_layout.proofs.FormsFit.{gathered_fits}
 use Rattle.rx_layout.proofs.querying.gathered_query.Goals as goal
 
 pub gathered_form-requires : goal.gathered_form-requires
 gathered_form-requires c = c.requires.types
 
-pub fitting_query-requires : goal.fitting_query-requires
-fitting_query-requires c = record { few = c.requires.room }
+pub query_of_form-requires : goal.query_of_form-requires
+query_of_form-requires c =
+    let domains = domains_in c.args.scalars.now in
+    let m = graph_of c.args.message.now in
+    let b = c.args.builder in
+    let n = b.work.next in
+    let h = c.requires.fits n (omega arith) in
+    record { few = c.requires.room; fits = ap (λ (f : Form). fits n f) c.in-Ok.ensures ∙ gathered_fits domains m c.requires.proper n h.some b (omega arith) h }
 
 pub returns-in-Ok : goal.returns-in-Ok
 returns-in-Ok c =
     let n = c.args.builder.work.next in
-    if_ok c.fitting_query.result _ _ (λ q h. h ∙ ap (λ (f : Form). query_of n (parts_of n f)) c.in-Ok.ensures) c.fitting_query.ensures
+    if_ok c.query_of_form.result _ _ (λ q h. h ∙ ap (λ (f : Form). query_of n (parts_of n f)) c.in-Ok.ensures) c.query_of_form.ensures
 
 pub returns-in-Err : goal.returns-in-Err
 returns-in-Err c = tt

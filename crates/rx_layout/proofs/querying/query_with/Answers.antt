@@ -6,7 +6,7 @@ use Rattle.rx_layout.specs.Made.{gathered_form}
 use Rattle.rx_layout.specs.Parts.{query_of, parts_of}
 use Rattle.rx_layout.specs.QueryOf.{query_for}
 use Rattle.rx_layout.proofs.Gathered.{if_ok}
-use Rattle.rx_layout.proofs.Answering.{path_links, small_types, query_made}
+use Rattle.rx_layout.proofs.Answering.{path_links, small_types, proper_types, query_made}
 use Rattle.rx_layout.proofs.querying.query_with.Goals as goal
 
 pub gather-requires : goal.gather-requires
@@ -25,7 +25,7 @@ pub gathered_query-requires : goal.gathered_query-requires
 gathered_query-requires c =
     let domains = domains_in c.args.scalars.now in
     let m = graph_of c.args.message.now in
-    record { types = small_types domains m c.requires.elaborated; room = c.in-Ok.ensures.room }
+    record { types = small_types domains m c.requires.elaborated; proper = proper_types domains m c.requires.elaborated; room = c.in-Ok.ensures.room; fits = c.in-Ok.ensures.fits }
 
 pub returns-in-Ok : goal.returns-in-Ok
 returns-in-Ok c =
