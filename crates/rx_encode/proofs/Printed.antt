@@ -1,5 +1,5 @@
 -- The valuation that a buffer reads as has what its fields may hold, so that its JSON reads back.
-use Rattle.std.proofs.Common.{◌≡◌, ℕ, ◌+◌, ◌/◌, ◌<◌, Bool, true, false, cond, List, [], ◌∷◌, ◌++◌, length, Option, Some, None, IsSome, refl, sym, ap, ◌∙◌, subst, inl, inr}
+use Rattle.std.proofs.Common.{◌≡◌, ℕ, ◌/◌, ◌<◌, Bool, true, false, cond, List, [], ◌∷◌, ◌++◌, length, Option, Some, None, IsSome, refl, sym, ap, ◌∙◌, subst, inl, inr}
 use Rattle.std.specs.Prelude.{◌==◌, ◌+ℤ◌, nat_abs}
 use Rattle.std.specs.List.{AllByRecursion}
 use Rattle.std.proofs.lemmas.Bool.Decides.{Decides-eqb}
@@ -9,7 +9,7 @@ use Rattle.rx_graph.specs.declared.message.Node.{Node}
 use Rattle.rx_graph.specs.declared.message.Node.TheVariants.{Start, At}
 use Rattle.rx_graph.specs.Elaborated.{IsElaborated}
 use Rattle.rx_graph.specs.Graph.{Graph, type_of}
-use Rattle.rx_graph.specs.Fits.{Content, Number, Bytes, Assigned, content_of, content_at, IsContent, IsAscending, ReadsAs}
+use Rattle.rx_graph.specs.Fits.{Content, Number, Assigned, content_of, content_at, IsContent, IsAscending, ReadsAs}
 use Rattle.rx_graph.specs.Paths.{HasNumber, Leads}
 use Rattle.rx_graph.proofs.Facts.{targets_are_fields}
 use Rattle.rx_graph.proofs.Lengths.{Once, once}

@@ -3,17 +3,16 @@ use Rattle.std.proofs.Common.{◌≡◌, ℕ, List, Ok, subst}
 use Rattle.rx_types.specs.Domain.{Domain}
 use Rattle.rx_graph.specs.Elaborated.{IsElaborated}
 use Rattle.rx_graph.specs.Graph.{Graph}
-use Rattle.rx_graph.specs.Fits.{Assigned, IsAscending, ReadsAs}
+use Rattle.rx_graph.specs.Fits.{ReadsAs}
 use Rattle.rx_graph.specs.Laws.{FitsHaveLength}
 use Rattle.rx_values.specs.Laws.{ReadsBack}
 use Rattle.rx_values.specs.Printing.{json_text}
 use Rattle.rx_values.specs.Reading.{value_of}
-use Rattle.rx_serial.specs.Laws.{AreBytes, NoneFits, HasOneRefusal, HasOneBuffer}
+use Rattle.rx_serial.specs.Laws.{NoneFits, HasOneRefusal, HasOneBuffer}
 use Rattle.rx_encode.specs.declared.encoding.Encoded.{Encoded}
 use Rattle.rx_encode.specs.declared.encoding.Encoded.TheVariants.{Bytes, NotJson, NotObject, UnknownField, BadValue, Duplicate, TooLong, Unsatisfied, Unused}
-use Rattle.rx_encode.specs.Encoded.{IsEncoded}
 use Rattle.rx_encode.specs.Laws.{IsBuffer, PrintedIsEncoded, EncodedReads}
-use Rattle.rx_encode.proofs.OneAnswer.{Code, Held, code, coded, one_code}
+use Rattle.rx_encode.proofs.OneAnswer.{Held, code, coded, one_code}
 use Rattle.rx_encode.proofs.Printed.{valued}
 use Rattle.rx_encode.proofs.Valued.{orderly}
 

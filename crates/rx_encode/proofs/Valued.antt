@@ -1,6 +1,6 @@
 -- A text that is a valuation: its ids ascend, and each value has the kind of its field.
-use Rattle.std.proofs.Common.{◌≡◌, ℕ, Bool, true, false, cond, List, [], ◌∷◌, Option, Some, None, Result, Ok, Err, refl, sym, ap, ◌∙◌, subst}
-use Rattle.std.specs.Prelude.{◌==◌, nat_lt, is_some, option_map, IsSome}
+use Rattle.std.proofs.Common.{◌≡◌, ℕ, Bool, true, false, cond, List, [], ◌∷◌, Option, Some, None, Result, Ok, Err, refl, sym, ◌∙◌, subst}
+use Rattle.std.specs.Prelude.{◌==◌, nat_lt, is_some, option_map}
 use Rattle.std.specs.List.{AllByRecursion}
 use Rattle.std.proofs.lemmas.Bool.Decides.{Decides-eqb}
 use Rattle.hex.specs.Hex.{decode_of}
@@ -9,7 +9,7 @@ use Rattle.rx_types.specs.Domain.{Domain}
 use Rattle.rx_graph.specs.Graph.{Graph, type_of}
 use Rattle.rx_graph.specs.Fits.{Content, Number, Bytes, Assigned, content_of, IsAscending}
 use Rattle.rx_context.specs.Plan.{Planned, StandsFor}
-use Rattle.rx_values.specs.Reading.{Refusal, scalar_from, bytes_from, ok_bytes, content_from, with_content, with_field, with_member, go_on, values_from, values_in, members_in, values_of, json_of, value_of}
+use Rattle.rx_values.specs.Reading.{Refusal, scalar_from, ok_bytes, content_from, with_content, with_field, with_member, go_on, values_from, values_in, members_in, values_of, json_of, value_of}
 use Rattle.rx_values.specs.Names.{field_named}
 use Rattle.rx_values.specs.Valuation.{inserted}
 use Rattle.rx_values.proofs.Ascending.{ascending_inserted}

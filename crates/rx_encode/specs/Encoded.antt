@@ -9,7 +9,6 @@ use Rattle.rx_values.specs.Reading.{value_of, Refusal}
 use Rattle.rx_values.specs.Reading.{NotJson as NoJson, NotObject as NoObject, UnknownField as NoField, BadValue as NoValue, Duplicate as Twice}
 use Rattle.rx_serial.specs.Laws.{AreBytes}
 use Rattle.rx_serial.specs.Unfit.{IsUnfit}
-use Rattle.rx_serial.specs.declared.fault.WriteFault.{WriteFault}
 use Rattle.rx_serial.specs.declared.fault.WriteFault.TheVariants as fault
 use Rattle.rx_encode.specs.declared.encoding.Encoded.{Encoded}
 use Rattle.rx_encode.specs.declared.encoding.Encoded.TheVariants.{Bytes, NotJson, NotObject, UnknownField, BadValue, Duplicate, TooLong, Unsatisfied, Unused}
@@ -23,7 +22,7 @@ module _ (domains : List Domain) (m : Graph) where
   abbrev pub IsRefused : List ℕ → Refusal → Type 0
   IsRefused text refusal = value_of domains m text ≡ Err refusal
 
-  -- the buffer that reads as the valuation; or why the text is no valuation; or why the valuation fits no path
+  -- the buffer, numbers below 256, that reads as the valuation; or why the text is no valuation; or why the valuation fits no path
   abbrev pub IsEncoded : List ℕ → Encoded → Type 0
   IsEncoded text (Bytes bytes) = AreBytes bytes.items × IfValued text (ReadsAs domains m bytes.items)
   IsEncoded text NotJson = IsRefused text NoJson

@@ -1,11 +1,11 @@
-//! What holds of what is encoded, each as the clause of a function that calls other laws or nothing.
+//! What holds of what is encoded, each as the clause of a function that changes and answers nothing.
 
 ghost use Rattle.rx_graph.specs.Elaborated.{IsSound};
 ghost use Rattle.rx_graph.specs.Graph.{domains_of, graph_of};
-ghost use Rattle.rx_values.specs.Laws.{AreNamed};
 ghost use Rattle.rx_encode.specs.Encoded.{HasOneAnswer};
 ghost use Rattle.rx_encode.specs.Laws.{PrintedIsEncoded, EncodedReads};
 
+use crate::naming::all_are_named;
 use rx_graph::{Message, Spec, sizes_make_the_length, sound_is_exclusive};
 use rx_serial::{
     unfit_valuations_fit_no_path, unfit_valuations_have_one_refusal, valuations_have_one_buffer,
@@ -26,10 +26,10 @@ pub fn one_text_answer(spec: &Spec, message: &Message)
 
 /// The JSON of the valuation that a buffer reads as is encoded as that buffer.
 pub fn printed_is_encoded(spec: &Spec, message: &Message)
-    requires sound { IsSound (domains_of spec.now) (graph_of message.now) }
-    requires named { AreNamed (domains_of spec.now) (graph_of message.now) }
+    requires { IsSound (domains_of spec.now) (graph_of message.now) }
     ensures { PrintedIsEncoded (domains_of spec.now) (graph_of message.now) }
 {
+    all_are_named(spec, message);
     sound_is_exclusive(spec, message);
     sizes_make_the_length(spec, message);
     printed_reads_back(message, spec);

@@ -5,6 +5,7 @@ mod encoding;
 mod fault;
 mod keys;
 mod laws;
+mod naming;
 #[cfg(test)]
 mod tests;
 
@@ -12,3 +13,4 @@ pub use encoding::{Encoded, encode};
 pub use fault::NoMemory;
 pub use keys::key_text;
 pub use laws::{encoded_reads, one_text_answer, printed_is_encoded};
+pub use naming::all_are_named;
