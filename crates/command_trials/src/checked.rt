@@ -86,18 +86,27 @@ fn a_message_that_fails_a_check_is_not_decoded(rt: HostRuntime) -> Result<(), Fa
 }
 
 // A tag that decides whether a length and bytes follow.
-const TLV: &[u8] = b"package TLV is type Tag is (Data => 1, Error => 3) with Size => 8; type Length is unsigned 16;
+const TLV: &[u8] =
+    b"package TLV is type Tag is (Data => 1, Error => 3) with Size => 8; type Length is unsigned 16;
 type Message is message Tag : Tag then Length if Tag = Data then null if Tag = Error; Length : Length; Value : Opaque with Size => Length * 8; end message; end TLV;";
 
 #[test]
 fn decodes_a_message_that_branches(rt: HostRuntime) -> Result<(), Fail> {
     // input, status, what is written
     let cases: [(&[u8], Status, &[u8]); 5] = [
-        (b"\x01\0\x02\x0a\x0b", Status::Done, b"{\"Length\":2,\"Tag\":\"Data\",\"Value\":\"0a0b\"}\n"),
+        (
+            b"\x01\0\x02\x0a\x0b",
+            Status::Done,
+            b"{\"Length\":2,\"Tag\":\"Data\",\"Value\":\"0a0b\"}\n",
+        ),
         (b"\x03", Status::Done, b"{\"Tag\":\"Error\"}\n"),
         (b"\x03\0", Status::InputRefused, b"refused: Trailing Tag\n"),
         (b"\x02", Status::InputRefused, b"refused: Value Tag\n"),
-        (b"\x01\0\x02\x0a", Status::InputRefused, b"refused: Short Value\n"),
+        (
+            b"\x01\0\x02\x0a",
+            Status::InputRefused,
+            b"refused: Short Value\n",
+        ),
     ];
     let (status, report) = ran(rt.alloc(), "check", "TLV", "tlv", TLV, b"")?;
     assert_eq!(rt; status, Status::Done);
@@ -112,7 +121,8 @@ fn decodes_a_message_that_branches(rt: HostRuntime) -> Result<(), Fail> {
 
 #[test]
 fn what_no_number_meets_fails_by_proofs(rt: HostRuntime) -> Result<(), Fail> {
-    let text = b"package Hard is type U is unsigned 8; type M is message A : U; B : U then null if 3 * A + 5 * B = 7; end message; end Hard;";
+    let text =
+        b"package Hard is type U is unsigned 8; type M is message A : U; B : U then null if 3 * A + 5 * B = 7; end message; end Hard;";
     let (status, written) = ran(rt.alloc(), "check", "Hard", "hard", text, b"")?;
     assert_eq!(rt; status, Status::NotAccepted);
     assert!(rt; has_line(&written, b"Hard::M Taken B 1: Failed by 1 proofs of "));

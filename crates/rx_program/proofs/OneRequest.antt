@@ -187,7 +187,6 @@ not_none x h = cc
 file_same : (asked : List (List ℕ)) (i j : ℕ) (f g : List ℕ) → i ≡ j → slice_get asked i ≡ Some f → slice_get asked j ≡ Some g → f ≡ g
 file_same asked i j f g e one two = some_same f g (sym one ∙ ap (slice_get asked) e ∙ two)
 
-
 -- ---- reports
 
 -- the types and the message of a request may be checked

@@ -52,7 +52,6 @@ domains_same_in (x ∷ xs) = ap (λ l. domain_of x.kind ∷ l) (domains_same_in 
 pub domains_same : (s : Spec) → domains_in (spec_of s) ≡ domains_of s
 domains_same s = domains_same_in s.scalars.items
 
-
 -- the first type is that one
 pub first_same : (ds : List Domain) → slice_get ds 0 ≡ Some boolean → (d : Domain) → slice_get ds 0 ≡ Some d → d ≡ boolean
 first_same ds first d is = (let same : Some d ≡ Some boolean = sym is ∙ first in cc)

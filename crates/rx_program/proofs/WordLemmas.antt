@@ -25,7 +25,6 @@ word_bytes (b ∷ bs) word =
 pub name_is : (name : List ℕ) → is_name name ≡ true → IsName name
 name_is name is = name_of_word name (word_bytes name (both (is_word name) (not (is_reserved name)) is).0)
 
-
 -- as many splits as words of a form ask for
 pub few_of_made : {E : Type 0} (n : ℕ) (res : Result (Option code.Ask) E) → (1 ≤ n) × (n ≤ 4096) → IfOk res (λ read. IfSome read (λ ask. ask.splits ≡ n)) → IfOk res (λ read. IfSome read (λ ask. (1 ≤ ask.splits) × (ask.splits ≤ 4096)))
 few_of_made n (Err e) few is = tt
