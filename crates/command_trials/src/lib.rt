@@ -6,4 +6,6 @@ mod checked;
 #[cfg(test)]
 mod commands;
 #[cfg(test)]
+mod encoded;
+#[cfg(test)]
 mod longest;
