@@ -160,9 +160,9 @@ module _ (domains : List Domain) (m : Graph) (sound : IsSound domains m) where
       (x.shows ∙ ap (shown_text m) same ∙ sym y.shows, x.ends ∙ ap shown_status same ∙ sym y.ends)
 
   not_too_long : (text : List ℕ) (d : Encoding) → EncodesTo domains m text d → IsEncoded domains m text encoded.TooLong → ⊥
-  not_too_long text d is too_long =
+  not_too_long text d is past =
       let x = shown_by domains m text d is in
-      x.short (codes_same text x.under encoded.TooLong x.is too_long)
+      x.short (codes_same text x.under encoded.TooLong x.is past)
 
 -- ---- what packages mean
 
@@ -245,12 +245,12 @@ module _ (r : Request) (input : List ℕ) where
   checked_same a b x y same e e' = subst (λ (k : Answer). IsSame k b) (sym e) (subst (IsSame (Checked x)) (sym e') same)
 
   decodes_short : (s : Specified) (m : Graph) (name : List ℕ) → r.ask.does ≡ Decodes name → length input ≤ input_limit → IsTooLong r r.ask.does s m input → ⊥
-  decodes_short s m name asks few too_long =
-      let more : input_limit < length input = subst (λ (d : Does). IsTooLong r d s m input) asks too_long in
+  decodes_short s m name asks few past =
+      let more : input_limit < length input = subst (λ (d : Does). IsTooLong r d s m input) asks past in
       absurd (omega arith)
 
   encodes_short : (s : Specified) (m : Graph) (name : List ℕ) (d : Encoding) → IsSound (domains_in s) m → r.ask.does ≡ Encodes name → length input ≤ input_limit → EncodesTo (domains_in s) m input d → IsTooLong r r.ask.does s m input → ⊥
-  encodes_short s m name d sound asks few is too_long = by_case (subst (λ (x : Does). IsTooLong r x s m input) asks too_long)
+  encodes_short s m name d sound asks few is past = by_case (subst (λ (x : Does). IsTooLong r x s m input) asks past)
     where
       by_case : IsTooLong r (Encodes name) s m input → ⊥
       by_case (inl more) = absurd (omega arith)
