@@ -5,16 +5,11 @@ use std::test::Fail;
 
 // Whether some line of the text begins so.
 fn has_line(text: &[u8], front: &[u8]) -> bool {
-    let mut rest = text;
-    while !rest.is_empty() {
-        if rest.starts_with(front) {
+    for start in 0..text.len() {
+        let begins = start == 0 || text[start - 1] == 10;
+        if begins && text[start..].starts_with(front) {
             return true;
         }
-        let length = rest.iter().take_while(|byte| **byte != 10).count();
-        if length == rest.len() {
-            return false;
-        }
-        rest = &rest[length + 1..];
     }
     false
 }
