@@ -1,18 +1,8 @@
 #!/usr/bin/env bash
 # Measures what checks cost: the processor time and the memory of whole processes. The input of `decode` is empty.
 #   RUNS   how many runs of each, of which the least time counts; 9 if not set
-set -eu
-here=$(cd "$(dirname "$0")" && pwd)
-folder=$(cd "$here/../crates/rflx" && pwd)
-ours=$folder/out/rflx
+. "$(dirname "$0")/ours.sh"
 runs=${RUNS:-9}
-work=$(mktemp -d)
-trap 'rm -rf "$work"' EXIT
-
-# our program; building it proves it and all that it stands on
-[ -x "$ours" ] || (cd "$folder" && rt run > "$work/build.log" 2>&1) || true
-[ -x "$ours" ] || { tail -n 20 "$work/build.log" >&2; exit 1; }
-gcc -O2 -o "$work/timed" "$here/timed.c"
 cp "$here"/../examples/*.rflx "$work"
 cat > "$work/hard.rflx" <<'END'
 package Hard is
