@@ -1,0 +1,12 @@
+pub mod Lists
+pub mod Exprs
+pub mod Links
+pub mod Scalars
+pub mod Stands
+pub mod Types
+pub mod Firsts
+pub mod Parts
+pub mod Shapes
+pub mod Arrows
+pub mod Messages
+pub mod Closure

@@ -1,0 +1,9 @@
+pub mod Heads
+pub mod Sole
+pub mod Rest
+pub mod Names
+pub mod Exprs
+pub mod Links
+pub mod Fields
+pub mod Types
+pub mod Packages
