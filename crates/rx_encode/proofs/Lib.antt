@@ -1,6 +1,6 @@
 mod Escapes
 pub mod OneAnswer
 mod Printed
-mod RoundTrip
+pub mod RoundTrip
 mod Valued
 mod Walked

@@ -4,8 +4,10 @@ use Rattle.std.specs.Prelude.{slice_get}
 use Rattle.rx_io.specs.Shelf.{Texts}
 use Rattle.rx_types.specs.Domain.{Domain}
 use Rattle.rx_graph.specs.declared.spec.Spec.{Spec}
+use Rattle.rx_graph.specs.Elaborated.{IsSound}
 use Rattle.rx_graph.specs.Graph.{Graph, Specified, spec_of, domains_of}
 use Rattle.rx_spec.specs.Laws.{domains_in}
+use Rattle.rx_values.specs.Laws.{AreNamed}
 use Rattle.rx_report.specs.Reported.{messages_of, Passes, IsReported, HasOpen, Examines}
 use Rattle.rx_report.specs.declared.reported.Reported.{Reported}
 use Rattle.rx_program.specs.declared.status.Status.{Status}
@@ -43,8 +45,20 @@ module _ (ask : code.Ask) (p : Packages) (spec : Spec) (m : Graph) where
   abbrev request : Request
   request = request_of (ask_of ask) p
 
-  serves_by : Finds request (spec_of spec) m → Passes (domains_of spec) ask.splits m → Serves request (spec_of spec) m
-  serves_by finds passes = record { finds = finds; passes = subst (λ (ds : List Domain). Passes ds ask.splits m) (sym (domains_same spec)) passes }
+  -- what is known of a message that is served
+  pub record IsServed : Type 0 where
+    pub finds : Finds request (spec_of spec) m
+    pub passes : Passes (domains_of spec) ask.splits m
+    pub sound : IsSound (domains_of spec) m
+    pub named : AreNamed (domains_of spec) m
+
+  serves_by : IsServed → Serves request (spec_of spec) m
+  serves_by known = record {
+    finds = known.finds;
+    passes = subst (λ (ds : List Domain). Passes ds ask.splits m) (sym (domains_same spec)) known.passes;
+    sound = subst (λ (ds : List Domain). IsSound ds m) (sym (domains_same spec)) known.sound;
+    named = subst (λ (ds : List Domain). AreNamed ds m) (sym (domains_same spec)) known.named;
+  }
 
   read_answers : (name left : List ℕ) (a : Answer) → does_of ask.does ≡ does_of (Decodes name) → Serves request (spec_of spec) m → IsReadAs (domains_in (spec_of spec)) m left a → AnswersTo request left a
   read_answers name left answer.Usage is serves read = absurd read
@@ -81,18 +95,18 @@ module _ (ask : code.Ask) (p : Packages) (spec : Spec) (m : Graph) where
   written_answers name left (answer.Output encoding) is serves read = (spec_of spec, m, name, serves, is, read.0, read.1)
 
   -- what the input is of a message, where it is decoded
-  pub answers_read : {E : Type 0} (input : Option (List ℕ)) (name : List ℕ) (res : Result Answer E) → Finds request (spec_of spec) m → Passes (domains_of spec) ask.splits m → does_of ask.does ≡ does_of (Decodes name)
+  pub answers_read : {E : Type 0} (input : Option (List ℕ)) (name : List ℕ) (res : Result Answer E) → IsServed → does_of ask.does ≡ does_of (Decodes name)
       → IfOk res (λ a. IfSome input (λ left. IsReadAs (domains_of spec) m left a)) → IfOk res (λ a. IfSome input (λ left. AnswersTo request left a))
-  answers_read input name (Err e) finds passes is read = tt
-  answers_read None name (Ok a) finds passes is read = tt
-  answers_read (Some left) name (Ok a) finds passes is read = read_answers name left a is (serves_by finds passes) (subst (λ (ds : List Domain). IsReadAs ds m left a) (sym (domains_same spec)) read)
+  answers_read input name (Err e) known is read = tt
+  answers_read None name (Ok a) known is read = tt
+  answers_read (Some left) name (Ok a) known is read = read_answers name left a is (serves_by known) (subst (λ (ds : List Domain). IsReadAs ds m left a) (sym (domains_same spec)) read)
 
   -- and where it is encoded
-  pub answers_written : {E : Type 0} (input : Option (List ℕ)) (name : List ℕ) (res : Result Answer E) → Finds request (spec_of spec) m → Passes (domains_of spec) ask.splits m → does_of ask.does ≡ does_of (Encodes name)
+  pub answers_written : {E : Type 0} (input : Option (List ℕ)) (name : List ℕ) (res : Result Answer E) → IsServed → does_of ask.does ≡ does_of (Encodes name)
       → IfOk res (λ a. IfSome input (λ left. IsWrittenAs (domains_of spec) m left a)) → IfOk res (λ a. IfSome input (λ left. AnswersTo request left a))
-  answers_written input name (Err e) finds passes is written = tt
-  answers_written None name (Ok a) finds passes is written = tt
-  answers_written (Some left) name (Ok a) finds passes is written = written_answers name left a is (serves_by finds passes) (subst (λ (ds : List Domain). IsWrittenAs ds m left a) (sym (domains_same spec)) written)
+  answers_written input name (Err e) known is written = tt
+  answers_written None name (Ok a) known is written = tt
+  answers_written (Some left) name (Ok a) known is written = written_answers name left a is (serves_by known) (subst (λ (ds : List Domain). IsWrittenAs ds m left a) (sym (domains_same spec)) written)
 
   -- some check of the message did not pass
   pub answers_rejected : (input : Option (List ℕ)) (reported : Reported) → Finds request (spec_of spec) m → IsReported (domains_of spec) ask.splits (m ∷ []) reported → HasOpen reported

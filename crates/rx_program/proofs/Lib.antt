@@ -6,9 +6,13 @@ pub mod ReadLemmas
 pub mod RequestLemmas
 pub mod StageLemmas
 pub mod WordLemmas
-pub mod OneAnswer
-pub mod OneHeader
-pub mod OneReported
 pub mod OneText
 pub mod OneWalk
+pub mod OneStage
+pub mod OneClosure
+pub mod Carried
+pub mod OneReported
 pub mod OneRequest
+pub mod OneAnswer
+pub mod LineEnd
+pub mod RoundTrips

@@ -1,7 +1,6 @@
 -- The packages of a request and an input have one answer.
 use Rattle.std.proofs.Common.{◌≡◌, ℕ, ◌<◌, ◌≤◌, inl, inr, true, false, List, [], ◌∷◌, length, refl, sym, ap, ◌∙◌, subst, arith, Option, Some, None, Result, Ok, Err}
 use Rattle.std.specs.Prelude.{slice_get}
-use Rattle.rx_syntax.specs.declared.tree.PackageTree.{PackageTree}
 use Rattle.rx_types.specs.Domain.{Domain}
 use Rattle.rx_types.specs.declared.stuck.Reason.{Reason}
 use Rattle.rx_types.specs.declared.stuck.Stuck as stuck
@@ -10,25 +9,19 @@ use Rattle.rx_graph.specs.Graph.{Graph, Specified}
 use Rattle.rx_decode.specs.Decoded.{HasOneAnswer}
 use Rattle.rx_decode.specs.declared.decoding.Decoded.TheVariants as decoded
 use Rattle.rx_decode.proofs.OneText.{one_answer}
-use Rattle.rx_types.specs.Domain.{boolean}
 use Rattle.rx_graph.specs.Elaborated.{IsSound}
 use Rattle.rx_graph.proofs.Sound.{exclusive_from_checks}
-use Rattle.rx_forms.proofs.Typed.{links_formable, links_narrow}
-use Rattle.rx_checks.proofs.Soundness.{show_soundness}
-use Rattle.rx_forms.specs.PathLimit.{MayBeChecked}
-use Rattle.rx_report.specs.Reported.{messages_of, Passes, IsReported, HasOpen}
+use Rattle.rx_report.specs.Reported.{messages_of, IsReported, HasOpen}
 use Rattle.rx_report.specs.declared.reported.Reported.{Reported}
 use Rattle.rx_spec.specs.Elaboration.{elaborated}
-use Rattle.rx_spec.specs.Laws.{IsSoundSpec, domains_in}
-use Rattle.rx_spec.proofs.Elaborating.{elaboration_is_sound}
+use Rattle.rx_spec.specs.Laws.{domains_in}
 use Rattle.rx_spec.specs.declared.fault.Told.{Told}
 use Rattle.rx_program.specs.Words.{Does, Checks, Decodes, Encodes, message_asked}
 use Rattle.rx_program.specs.Stage.{of_packages}
 use Rattle.rx_program.specs.Operand.{message_in}
 use Rattle.rx_program.specs.Input.{input_limit, name_if_any, DecodesTo, EncodesTo}
-use Rattle.rx_program.specs.Request.{Request, TellsForm, TellsRule, Means, Lacks, Finds, ReportsAll, IsTooLong, AnswersTo}
+use Rattle.rx_program.specs.Request.{Request, TellsForm, TellsRule, Means, Lacks, Finds, Serves, ReportsAll, IsTooLong, AnswersTo}
 use Rattle.rx_program.specs.Laws.{is_fault, IsSame, IsSameReport}
-use Rattle.rx_program.proofs.OperandLemmas.{found_has}
 use Rattle.rx_program.proofs.OneReported.{reported_same, passes_not_open}
 use Rattle.rx_program.specs.declared.stage.Unserved as stage
 use Rattle.rx_program.specs.declared.stage.Found.{Found}
@@ -74,7 +67,7 @@ same_refl (Input (Stuck reason name)) = refl
 same_refl (Output e) = (refl, refl)
 
 -- the same answer twice
-same_both : (a b c : Answer) → a ≡ c → b ≡ c → IsSame a b
+pub same_both : (a b c : Answer) → a ≡ c → b ≡ c → IsSame a b
 same_both a b c one two = subst (IsSame a) (one ∙ sym two) (same_refl a)
 
 -- ---- inputs
@@ -134,19 +127,19 @@ shown_by domains m text (encoding.Unsatisfied name reason) is =
 shown_by domains m text (encoding.Unused name) is = record { under = encoded.Unused is.0; is = is.1; shows = ap (λ n. encoding_text (encoding.Unused n)) is.2; ends = refl; short = λ h. cc }
 
 module _ (domains : List Domain) (m : Graph) (sound : IsSound domains m) where
-  alone : Exclusive domains m
+  pub alone : Exclusive domains m
   alone = exclusive_from_checks domains m sound.holds
 
-  none : NoneFits domains m
+  pub none : NoneFits domains m
   none values why u fit = none_fits domains m alone values why u fit
 
-  refusal : HasOneRefusal domains m
+  pub refusal : HasOneRefusal domains m
   refusal values why other u v = one_refusal domains m alone values why other u v
 
-  buffer : HasOneBuffer domains m
+  pub buffer : HasOneBuffer domains m
   buffer values b other ascending x y r s = one_buffer domains m sound alone values b other ascending x y r s
 
-  long : FitsHaveLength domains m
+  pub long : FitsHaveLength domains m
   long values total path fields ascending f = length_fits domains m sound values ascending total path fields f
 
   codes_same : (text : List ℕ) (x y : Encoded) → IsEncoded domains m text x → IsEncoded domains m text y → code x ≡ code y
@@ -189,29 +182,13 @@ file_same asked i j f g e one two = some_same f g (sym one ∙ ap (slice_get ask
 
 -- ---- reports
 
--- the types and the message of a request may be checked
-checkable : (asked : List (List ℕ)) (trees : List PackageTree) (s : Specified) (name message : List ℕ) (m : Graph) → elaborated asked trees ≡ Ok s → message_in name message s.messages ≡ Some m → MayBeChecked (domains_in s) m
-checkable asked trees s name message m is found = found_has (MayBeChecked (domains_in s)) name message s.messages m (elaboration_is_sound asked trees s is).messages found
-
-boolean_of : (s : Specified) → IsSoundSpec s → (d : Domain) → slice_get (domains_in s) 0 ≡ Some d → d ≡ boolean
-boolean_of s sound d is = some_same d boolean (sym is ∙ sound.boolean)
-
--- a message whose report has passed is sound
-sound_of : (asked : List (List ℕ)) (trees : List PackageTree) (s : Specified) (name message : List ℕ) (m : Graph) (splits : ℕ) → elaborated asked trees ≡ Ok s → message_in name message s.messages ≡ Some m → Passes (domains_in s) splits m
-    → IsSound (domains_in s) m
-sound_of asked trees s name message m splits is found passes =
-    let whole = elaboration_is_sound asked trees s is in
-    let domains = domains_in s in
-    let checked = checkable asked trees s name message m is found in
-    show_soundness domains m checked.elaborated (links_formable domains m (boolean_of s whole) checked.elaborated) (links_narrow domains m (boolean_of s whole) checked.elaborated) splits passes.report passes.is passes.passed
-
 module _ (r : Request) (input : List ℕ) where
   -- the answer of a message that is found
   data Late (s : Specified) (m : Graph) (a : Answer) : Type 0 where
     rejects : (x : Reported) → IsReported (domains_in s) r.ask.splits (m ∷ []) x → HasOpen x → a ≡ Rejected x → Late s m a
-    too_long : Passes (domains_in s) r.ask.splits m → IsTooLong r r.ask.does s m input → a ≡ InputLimit → Late s m a
-    decodes : (name : List ℕ) (d : Decoding) → Passes (domains_in s) r.ask.splits m → r.ask.does ≡ Decodes name → length input ≤ input_limit → DecodesTo (domains_in s) m input d → a ≡ Input d → Late s m a
-    encodes : (name : List ℕ) (d : Encoding) → Passes (domains_in s) r.ask.splits m → r.ask.does ≡ Encodes name → length input ≤ input_limit → EncodesTo (domains_in s) m input d → a ≡ Output d → Late s m a
+    too_long : Serves r s m → IsTooLong r r.ask.does s m input → a ≡ InputLimit → Late s m a
+    decodes : (name : List ℕ) (d : Decoding) → Serves r s m → r.ask.does ≡ Decodes name → length input ≤ input_limit → DecodesTo (domains_in s) m input d → a ≡ Input d → Late s m a
+    encodes : (name : List ℕ) (d : Encoding) → Serves r s m → r.ask.does ≡ Encodes name → length input ≤ input_limit → EncodesTo (domains_in s) m input d → a ≡ Output d → Late s m a
 
   -- the answer of the packages
   data View (a : Answer) : Type 0 where
@@ -228,9 +205,9 @@ module _ (r : Request) (input : List ℕ) where
   view (Checked x) sound is = checks x is refl
   view (Rejected x) sound is = finds is.spec is.graph is.finds (rejects x is.reported_is is.not_passed refl)
   view SourceFault sound is = absurd (let no : true ≡ false = sound in cc)
-  view InputLimit sound is = finds is.0 is.1 is.2.finds (too_long is.2.passes is.3 refl)
-  view (Input d) sound is = finds is.0 is.1 is.3.finds (decodes is.2 d is.3.passes is.4 is.5 is.6 refl)
-  view (Output d) sound is = finds is.0 is.1 is.3.finds (encodes is.2 d is.3.passes is.4 is.5 is.6 refl)
+  view InputLimit sound is = finds is.0 is.1 is.2.finds (too_long is.2 is.3 refl)
+  view (Input d) sound is = finds is.0 is.1 is.3.finds (decodes is.2 d is.3 is.4 is.5 is.6 refl)
+  view (Output d) sound is = finds is.0 is.1 is.3.finds (encodes is.2 d is.3 is.4 is.5 is.6 refl)
   view Usage sound is = absurd is
   view ShelfFault sound is = absurd is
   view (NoPackage n) sound is = absurd is
@@ -259,38 +236,34 @@ module _ (r : Request) (input : List ℕ) where
   one_kind : (name other : List ℕ) → r.ask.does ≡ Decodes name → r.ask.does ≡ Encodes other → ⊥
   one_kind name other one two = (let no : Decodes name ≡ Encodes other = sym one ∙ two in cc)
 
-  sound_here : (s : Specified) (m : Graph) → Finds r s m → Passes (domains_in s) r.ask.splits m → IsSound (domains_in s) m
-  sound_here s m f passes = sound_of r.asked r.trees s r.ask.name f.name m r.ask.splits f.means.meaning f.found passes
-
-  late_same : (s : Specified) (m : Graph) (a b : Answer) → Finds r s m → Late s m a → Late s m b → IsSame a b
-  late_same s m a b f (rejects x is unmet e) (rejects y is' unmet' e') = rejected_same a b x y (reported_same (domains_in s) r.ask.splits (m ∷ []) x y is is') e e'
-  late_same s m a b f (rejects x is unmet e) (too_long p more e') = absurd (passes_not_open (domains_in s) r.ask.splits m x p is unmet)
-  late_same s m a b f (rejects x is unmet e) (decodes n d p asks few is' e') = absurd (passes_not_open (domains_in s) r.ask.splits m x p is unmet)
-  late_same s m a b f (rejects x is unmet e) (encodes n d p asks few is' e') = absurd (passes_not_open (domains_in s) r.ask.splits m x p is unmet)
-  late_same s m a b f (too_long p more e) (rejects y is unmet e') = absurd (passes_not_open (domains_in s) r.ask.splits m y p is unmet)
-  late_same s m a b f (too_long p more e) (too_long p' more' e') = same_both a b InputLimit e e'
-  late_same s m a b f (too_long p more e) (decodes n d p' asks few is e') = absurd (decodes_short s m n asks few more)
-  late_same s m a b f (too_long p more e) (encodes n d p' asks few is e') = absurd (encodes_short s m n d (sound_here s m f p) asks few is more)
-  late_same s m a b f (decodes n d p asks few is e) (rejects y is' unmet e') = absurd (passes_not_open (domains_in s) r.ask.splits m y p is' unmet)
-  late_same s m a b f (decodes n d p asks few is e) (too_long p' more e') = absurd (decodes_short s m n asks few more)
-  late_same s m a b f (decodes n d p asks few is e) (decodes n' d' p' asks' few' is' e') =
-      let sound = sound_here s m f p in
-      subst (λ (x : Answer). IsSame x b) (sym e) (subst (IsSame (Input d)) (sym e') (decodes_same (domains_in s) m input (one_answer (domains_in s) m (exclusive_from_checks (domains_in s) m sound.holds)) d d' is is'))
-  late_same s m a b f (decodes n d p asks few is e) (encodes n' d' p' asks' few' is' e') = absurd (one_kind n n' asks asks')
-  late_same s m a b f (encodes n d p asks few is e) (rejects y is' unmet e') = absurd (passes_not_open (domains_in s) r.ask.splits m y p is' unmet)
-  late_same s m a b f (encodes n d p asks few is e) (too_long p' more e') = absurd (encodes_short s m n d (sound_here s m f p) asks few is more)
-  late_same s m a b f (encodes n d p asks few is e) (decodes n' d' p' asks' few' is' e') = absurd (one_kind n' n asks' asks)
-  late_same s m a b f (encodes n d p asks few is e) (encodes n' d' p' asks' few' is' e') =
-      subst (λ (x : Answer). IsSame x b) (sym e) (subst (IsSame (Output d)) (sym e') (encodes_same (domains_in s) m (sound_here s m f p) input d d' is is'))
+  late_same : (s : Specified) (m : Graph) (a b : Answer) → Late s m a → Late s m b → IsSame a b
+  late_same s m a b (rejects x is unmet e) (rejects y is' unmet' e') = rejected_same a b x y (reported_same (domains_in s) r.ask.splits (m ∷ []) x y is is') e e'
+  late_same s m a b (rejects x is unmet e) (too_long p more e') = absurd (passes_not_open (domains_in s) r.ask.splits m x p.passes is unmet)
+  late_same s m a b (rejects x is unmet e) (decodes n d p asks few is' e') = absurd (passes_not_open (domains_in s) r.ask.splits m x p.passes is unmet)
+  late_same s m a b (rejects x is unmet e) (encodes n d p asks few is' e') = absurd (passes_not_open (domains_in s) r.ask.splits m x p.passes is unmet)
+  late_same s m a b (too_long p more e) (rejects y is unmet e') = absurd (passes_not_open (domains_in s) r.ask.splits m y p.passes is unmet)
+  late_same s m a b (too_long p more e) (too_long p' more' e') = same_both a b InputLimit e e'
+  late_same s m a b (too_long p more e) (decodes n d p' asks few is e') = absurd (decodes_short s m n asks few more)
+  late_same s m a b (too_long p more e) (encodes n d p' asks few is e') = absurd (encodes_short s m n d p.sound asks few is more)
+  late_same s m a b (decodes n d p asks few is e) (rejects y is' unmet e') = absurd (passes_not_open (domains_in s) r.ask.splits m y p.passes is' unmet)
+  late_same s m a b (decodes n d p asks few is e) (too_long p' more e') = absurd (decodes_short s m n asks few more)
+  late_same s m a b (decodes n d p asks few is e) (decodes n' d' p' asks' few' is' e') =
+      subst (λ (x : Answer). IsSame x b) (sym e) (subst (IsSame (Input d)) (sym e') (decodes_same (domains_in s) m input (one_answer (domains_in s) m (exclusive_from_checks (domains_in s) m p.sound.holds)) d d' is is'))
+  late_same s m a b (decodes n d p asks few is e) (encodes n' d' p' asks' few' is' e') = absurd (one_kind n n' asks asks')
+  late_same s m a b (encodes n d p asks few is e) (rejects y is' unmet e') = absurd (passes_not_open (domains_in s) r.ask.splits m y p.passes is' unmet)
+  late_same s m a b (encodes n d p asks few is e) (too_long p' more e') = absurd (encodes_short s m n d p.sound asks few is more)
+  late_same s m a b (encodes n d p asks few is e) (decodes n' d' p' asks' few' is' e') = absurd (one_kind n' n asks' asks)
+  late_same s m a b (encodes n d p asks few is e) (encodes n' d' p' asks' few' is' e') =
+      subst (λ (x : Answer). IsSame x b) (sym e) (subst (IsSame (Output d)) (sym e') (encodes_same (domains_in s) m p.sound input d d' is is'))
 
   -- one meaning, one name, and one message
-  means_same : (s t : Specified) → Means r s → Means r t → s ≡ t
+  pub means_same : (s t : Specified) → Means r s → Means r t → s ≡ t
   means_same s t one two = ok_same s t (sym one.meaning ∙ two.meaning)
 
   name_same : (n k : List ℕ) → message_asked r.ask.does ≡ Some n → message_asked r.ask.does ≡ Some k → n ≡ k
   name_same n k one two = some_same n k (sym one ∙ two)
 
-  graph_same : (s t : Specified) (m n : Graph) → Finds r s m → Finds r t n → m ≡ n
+  pub graph_same : (s t : Specified) (m n : Graph) → Finds r s m → Finds r t n → m ≡ n
   graph_same s t m n one two =
       some_same m n (sym one.found ∙ ap (λ (x : Specified). message_in r.ask.name one.name x.messages) (means_same s t one.means two.means) ∙ ap (λ k. message_in r.ask.name k t.messages) (name_same one.name two.name one.asked_is two.asked_is) ∙ two.found)
 
@@ -298,7 +271,7 @@ module _ (r : Request) (input : List ℕ) where
   found_same s t m n a b one two late late' =
       let specs = sym (means_same s t one.means two.means) in
       let graphs = sym (graph_same s t m n one two) in
-      late_same s m a b one late (subst (λ (x : Specified). Late x m b) specs (subst (λ (g : Graph). Late t g b) graphs late'))
+      late_same s m a b late (subst (λ (x : Specified). Late x m b) specs (subst (λ (g : Graph). Late t g b) graphs late'))
 
   all_same : (a b : Answer) (x y : Reported) → ReportsAll r x → ReportsAll r y → a ≡ Checked x → b ≡ Checked y → IsSame a b
   all_same a b x y one two e e' =
@@ -364,5 +337,5 @@ module _ (r : Request) (input : List ℕ) where
   view_same a b (finds s m x late) (lacks n l e') = absurd (no_message n s m l x)
   view_same a b (finds s m x late) (finds t n y late') = found_same s t m n a b x y late late'
 
-pub one_of_packages_lem : (r : Request) (input : List ℕ) (a b : Answer) → is_fault a ≡ false → is_fault b ≡ false → AnswersTo r input a → AnswersTo r input b → IsSame a b
-one_of_packages_lem r input a b sound sound' is is' = view_same r input a b (view r input a sound is) (view r input b sound' is')
+pub one_of_request : (r : Request) (input : List ℕ) (a b : Answer) → is_fault a ≡ false → is_fault b ≡ false → AnswersTo r input a → AnswersTo r input b → IsSame a b
+one_of_request r input a b sound sound' is is' = view_same r input a b (view r input a sound is) (view r input b sound' is')

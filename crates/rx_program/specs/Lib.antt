@@ -12,3 +12,4 @@ pub mod Answers
 pub mod Outcome
 pub mod Status
 pub mod Laws
+pub mod RoundTrips

@@ -1,16 +1,18 @@
 -- What packages and an input answer to a request.
 --   Request                  what is asked for, and the packages of its closure
 --   TellsForm, TellsRule     why the packages are refused, and in which file
---   Means, Finds, Serves     what they mean, the message in it that is asked for, and that its checks pass
+--   Means, Finds, Serves     what they mean, the message in it that is asked for, and that it is served: its checks pass, so it is sound
 --   AnswersTo r input a      the answers by cases
 use Rattle.std.specs.Prelude.{◌≡◌, ◌⊎◌, ℕ, ◌<◌, ◌≤◌, List, [], ◌∷◌, length, Some, None, Ok, Err, slice_get}
 use Rattle.rx_syntax.specs.declared.token.Place.{Place}
 use Rattle.rx_syntax.specs.declared.tree.PackageTree.{PackageTree}
+use Rattle.rx_graph.specs.Elaborated.{IsSound}
 use Rattle.rx_graph.specs.Graph.{Graph, Specified}
 use Rattle.rx_judge.specs.declared.fault.Refusal as judge
 use Rattle.rx_spec.specs.Elaboration.{elaborated}
 use Rattle.rx_spec.specs.Laws.{domains_in}
 use Rattle.rx_spec.specs.declared.fault.Told.{Told}
+use Rattle.rx_values.specs.Laws.{AreNamed}
 use Rattle.rx_report.specs.declared.reported.Reported.{Reported}
 use Rattle.rx_report.specs.Reported.{messages_of, Passes, IsReported, HasOpen}
 use Rattle.rx_encode.specs.Encoded.{IsEncoded}
@@ -83,10 +85,12 @@ module _ (r : Request) where
     pub reported_is : IsReported (domains_in spec) r.ask.splits (graph ∷ []) reported
     pub not_passed : HasOpen reported
 
-  -- the message that is asked for, all of whose checks pass
+  -- the message that is asked for, all of whose checks pass: it is sound, and its fields and literals have names
   pub record Serves (s : Specified) (m : Graph) : Type 0 where
     pub finds : Finds s m
     pub passes : Passes (domains_in s) r.ask.splits m
+    pub sound : IsSound (domains_in s) m
+    pub named : AreNamed (domains_in s) m
 
   -- the input, or the message that is to be made of it, is too long
   abbrev pub IsTooLong : Does → Specified → Graph → List ℕ → Type 0

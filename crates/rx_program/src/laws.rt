@@ -1,13 +1,30 @@
 //! What the definitions of answers say together, as contracts of functions that do nothing.
-ghost use Rattle.rx_program.specs.Laws.{OneEnd, OneOfPackages};
+ghost use Rattle.rx_program.specs.Laws.{OneAnswer};
+ghost use Rattle.rx_program.specs.RoundTrips.{EncodedIsDecoded, DecodedIsEncoded};
 
-/// A command that ends before its packages are all read has one answer, but for faults of the shelf.
-pub fn one_end()
-    ensures { OneEnd }
-{}
+use rx_meaning::one_meaning;
+use rx_trees::one_tree;
 
-/// The packages that were read, what is asked for and the input have one answer, but for faults of the source, and for steps, lengths
-/// and numbers of reports.
-pub fn one_of_packages()
-    ensures { OneOfPackages }
-{}
+/// Words, texts and an input have one answer, but for faults of the shelf and the source, and for steps, lengths and numbers of reports.
+pub fn one_answer()
+    ensures { OneAnswer }
+{
+    one_tree();
+    one_meaning();
+}
+
+/// What one command encoded of a text, another over the same texts decodes as the text's values, where both end with status Done.
+pub fn encoded_is_decoded()
+    ensures { EncodedIsDecoded }
+{
+    one_tree();
+    one_meaning();
+}
+
+/// What one command printed of a buffer, another over the same texts encodes as that buffer, where both end with status Done.
+pub fn decoded_is_encoded()
+    ensures { DecodedIsEncoded }
+{
+    one_tree();
+    one_meaning();
+}

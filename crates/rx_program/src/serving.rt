@@ -23,6 +23,7 @@ use crate::operand::find_message;
 use crate::stage::{Found, first_unserved};
 use crate::words::{Ask, Does};
 use rx_checks::reports_show_soundness;
+use rx_encode::all_are_named;
 use rx_graph::{Message, Spec};
 use rx_io::Source;
 use rx_report::{Examined, examine, report_package};
@@ -51,6 +52,7 @@ fn answer_input<I: Source>(
     ensures one { IfOk result (λ answer. IsOfAll answer → ⊥) }
 {
     reports_show_soundness(spec, message);
+    all_are_named(spec, message);
     match &ask.does {
         Does::Checks => unreachable!(),
         Does::Decodes(_) => read_input(alloc, message, spec, input),
