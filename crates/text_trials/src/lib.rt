@@ -1,4 +1,4 @@
-//! Trials of the lexer and the parser: a table of every mark, word, number and rule, with sentences and with faults.
+//! Trials of words, the lexer and the parser: a table of every mark, word, number and rule, with sentences and with faults.
 #![tactic(auto)]
 
 #[cfg(test)]
@@ -7,3 +7,5 @@ mod faults;
 mod sentences;
 #[cfg(test)]
 mod tokens;
+#[cfg(test)]
+mod words;
