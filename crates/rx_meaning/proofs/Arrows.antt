@@ -1,5 +1,5 @@
 -- The links of messages that are the same are the same.
-use Rattle.std.proofs.Common.{◌≡◌, ap, refl, List, Option}
+use Rattle.std.proofs.Common.{◌≡◌, ap, List, Option}
 use Rattle.rx_syntax.specs.declared.tree.Named.{Named}
 use Rattle.rx_syntax.specs.declared.tree.FieldTree.{FieldTree}
 use Rattle.rx_syntax.specs.declared.tree.ThenTree.{ThenTree}

@@ -1,10 +1,7 @@
 -- Packages that are the same have one specification, or one refusal.
 use Rattle.std.proofs.Common.{◌≡◌, ap, refl, ℕ, ◌+◌, List, [], Result, Ok}
-use Rattle.rx_syntax.specs.declared.tree.PackageTree.{PackageTree}
-use Rattle.rx_graph.specs.Graph.{Graph}
-use Rattle.rx_judge.specs.Meaning.{◌>>=◌}
-use Rattle.rx_elab.specs.Types.{Types, built_in_types}
-use Rattle.rx_spec.specs.Elaboration.{in_package, through_from, package_stands_in, package_types_in, package_messages_in, elaborated}
+use Rattle.rx_elab.specs.Types.{built_in_types}
+use Rattle.rx_spec.specs.Elaboration.{in_package, through_from}
 use Rattle.rx_trees.specs.Alike as alike
 use Rattle.rx_trees.specs.Alike.{AreSame, IsSamePackage}
 use Rattle.rx_meaning.specs.Laws.{OneMeaning}

@@ -1,11 +1,9 @@
 -- Expressions that are the same have one meaning, one root and as many operators.
-use Rattle.std.proofs.Common.{◌≡◌, ap, refl, ℕ, ◌+◌, List, Result, Ok}
-use Rattle.rx_syntax.specs.declared.token.Place.{Place}
+use Rattle.std.proofs.Common.{◌≡◌, ap, refl, ℕ, ◌+◌, List}
 use Rattle.rx_syntax.specs.declared.tree.ExprTree.{ExprTree}
-use Rattle.rx_judge.specs.Meaning.{Meaning, ◌>>=◌}
 use Rattle.rx_judge.specs.Names.{Names}
 use Rattle.rx_judge.specs.Kinds.{operator_of}
-use Rattle.rx_judge.specs.Judged.{Typed, judged, negative, opposite, joined}
+use Rattle.rx_judge.specs.Judged.{judged, negative, opposite, joined}
 use Rattle.rx_judge.specs.Scalar.{root_place}
 use Rattle.rx_judge.specs.Sound.{operators_of}
 use Rattle.rx_trees.specs.Alike as alike

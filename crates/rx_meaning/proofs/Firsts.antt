@@ -1,10 +1,7 @@
 -- The First of a field or a link is the same in trees that are the alike.
-use Rattle.std.proofs.Common.{◌≡◌, ◌∙◌, refl, ap, ℕ, Bool, ◌&&◌, List, [], ◌∷◌, map, Option, Some, None}
+use Rattle.std.proofs.Common.{◌≡◌, ◌∙◌, refl, ap, ℕ, ◌&&◌, List, map, Option, Some, None}
 use Rattle.std.specs.Option.{option_or}
 use Rattle.rx_syntax.specs.declared.tree.NameTree.{NameTree}
-use Rattle.rx_syntax.specs.declared.tree.Attr.{Attr}
-use Rattle.rx_syntax.specs.declared.tree.Attr.TheVariants as attr
-use Rattle.rx_syntax.specs.declared.tree.Operator.{Operator}
 use Rattle.rx_syntax.specs.declared.tree.Operator.TheVariants as token
 use Rattle.rx_syntax.specs.declared.tree.ExprTree.{ExprTree}
 use Rattle.rx_syntax.specs.declared.tree.AspectTree.{AspectTree}
@@ -15,8 +12,7 @@ use Rattle.rx_judge.specs.Names.{Scope, Within}
 use Rattle.rx_links.specs.declared.links.Stop.{Stop}
 use Rattle.rx_links.specs.declared.links.Stop.TheVariants as stop
 use Rattle.rx_links.specs.declared.links.Way.{Way}
-use Rattle.rx_elab.specs.Firsts.{is_of_numbers, is_step_by, is_step, name_of_last, is_form, field_of_name, is_behind, has_first_form, laid, laid_if_any, first_from, first_in, clause_first, field_first, target_first, way_first, laying_of, layings_of}
-use Rattle.rx_elab.specs.declared.layings.Laying.{Laying}
+use Rattle.rx_elab.specs.Firsts.{is_of_numbers, is_step_by, is_step, name_of_last, is_form, field_of_name, is_behind, has_first_form, laid, laid_if_any, first_from, clause_first, field_first, target_first, way_first, laying_of, layings_of}
 use Rattle.rx_trees.specs.Alike.{AreSame, IsSameIfAny, IsSameExpr, IsSameAspect, IsSameThen, IsSameField, IsSameMessage}
 use Rattle.rx_trees.specs.Alike as alike
 use Rattle.rx_meaning.proofs.Lists.{item_same}

@@ -1,8 +1,8 @@
 -- Lists that are the same, item by item: what is made of them is the same.
-use Rattle.std.proofs.Common.{◌≡◌, ◌∙◌, ap, sym, refl, ℕ, ◌+◌, zero, suc, Bool, ◌&&◌, ◌||◌, List, [], ◌∷◌, ◌++◌, length, map, take, Option, Some, None, Result, Ok, Err}
+use Rattle.std.proofs.Common.{◌≡◌, ◌∙◌, ap, refl, ℕ, ◌+◌, zero, suc, Bool, ◌&&◌, ◌||◌, List, ◌∷◌, ◌++◌, length, map, take, Result, Ok, Err}
 use Rattle.std.specs.Prelude.{slice_get}
 use Rattle.std.specs.List.{list_all, list_any}
-use Rattle.rx_judge.specs.Meaning.{Meaning, ◌>>=◌, each_from, all_stand_from}
+use Rattle.rx_judge.specs.Meaning.{◌>>=◌, each_from, all_stand_from}
 use Rattle.rx_links.specs.Links.{gathered_from}
 use Rattle.rx_elab.specs.Through.{through}
 use Rattle.rx_trees.specs.Alike as alike

@@ -10,7 +10,7 @@ use Rattle.rx_syntax.specs.declared.tree.DeclTree.{DeclTree}
 use Rattle.rx_syntax.specs.declared.tree.DeclKind.{DeclKind}
 use Rattle.rx_syntax.specs.declared.tree.DefTree.{DefTree}
 use Rattle.rx_graph.specs.Graph.{Arrow, Graph}
-use Rattle.rx_judge.specs.Meaning.{Meaning, ◌>>=◌}
+use Rattle.rx_judge.specs.Meaning.{◌>>=◌}
 use Rattle.rx_judge.specs.Names.{Scope}
 use Rattle.rx_judge.specs.Scalar.{spelled}
 use Rattle.rx_judge.specs.Table.{Entry, added}
@@ -21,7 +21,7 @@ use Rattle.rx_elab.specs.Types.{Types}
 use Rattle.rx_elab.specs.declared.fields.Held.{Held}
 use Rattle.rx_elab.specs.declared.layings.Laying.{Laying}
 use Rattle.rx_spec.specs.Limit.{within_limit}
-use Rattle.rx_spec.specs.Messages.{Body, kind_held, known_from, known_fields, type_held, field_meant, scope_in, links_meant, sized_links, body_laid, body_shaped, body_of, graph_named, message_made, message_of, null_body, null_message, definition_meant, kind_meant, declaration_meant, package_messages}
+use Rattle.rx_spec.specs.Messages.{Body, kind_held, known_from, known_fields, type_held, field_meant, scope_in, links_meant, sized_links, body_laid, body_shaped, body_of, graph_named, message_of, null_body, null_message, definition_meant, kind_meant, declaration_meant, package_messages}
 use Rattle.rx_spec.specs.Shape.{Shape, shape_of}
 use Rattle.rx_spec.specs.Sizes.{fields_sized}
 use Rattle.rx_trees.specs.Alike as alike

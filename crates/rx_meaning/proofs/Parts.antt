@@ -1,5 +1,5 @@
 -- What is written at the fields and links of a message is the same in messages that are the same.
-use Rattle.std.proofs.Common.{◌≡◌, ◌∙◌, ap, refl, ℕ, not, List, [], Option, Some, None, Ok, codes}
+use Rattle.std.proofs.Common.{◌≡◌, ◌∙◌, ap, refl, ℕ, not, List, Option, Some, Ok, codes}
 use Rattle.std.specs.Prelude.{if◌then◌else◌}
 use Rattle.rx_syntax.specs.declared.token.Place.{Place}
 use Rattle.rx_syntax.specs.declared.tree.ExprTree.{ExprTree}
@@ -11,7 +11,7 @@ use Rattle.rx_judge.specs.Meaning.{Meaning, ◌>>=◌, refused, each_from}
 use Rattle.rx_judge.specs.Names.{Scope, Within}
 use Rattle.rx_judge.specs.Kinds.{is_number, is_truth}
 use Rattle.rx_judge.specs.declared.names.KnownField.{KnownField}
-use Rattle.rx_elab.specs.Parts.{Parts, FieldParts, MessageParts, no_parts, root_name, number_judged, truth_judged, is_scalar_field, target_in, is_mixed_target, first_stands, first_judged, size_judged, with_aspect, with_condition, parts_judged, then_parts, field_parts, message_parts}
+use Rattle.rx_elab.specs.Parts.{Parts, FieldParts, no_parts, root_name, number_judged, truth_judged, is_scalar_field, target_in, is_mixed_target, first_stands, first_judged, size_judged, with_aspect, with_condition, parts_judged, then_parts, field_parts, message_parts}
 use Rattle.rx_elab.specs.declared.layings.Laying.{Laying}
 use Rattle.rx_trees.specs.Alike as alike
 use Rattle.rx_trees.specs.Alike.{AreSame, IsSameIfAny, IsSameExpr, IsSameAspect, IsSameThen, IsSameField, IsSameMessage}

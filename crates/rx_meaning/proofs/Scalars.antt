@@ -1,5 +1,5 @@
 -- Definitions that are the same define one scalar type.
-use Rattle.std.proofs.Common.{◌≡◌, ap, refl, ℕ, ◌-◌, ◌^◌, Bool, List, ◌∷◌, ℤ, nat_abs, Option, Some, None, Result, Ok}
+use Rattle.std.proofs.Common.{◌≡◌, ap, refl, ℕ, ◌-◌, ◌^◌, List, ℤ, nat_abs, Option, Some, Ok}
 use Rattle.std.specs.Prelude.{slice_get, if◌then◌else◌}
 use Rattle.rx_syntax.specs.declared.token.Place.{Place}
 use Rattle.rx_syntax.specs.declared.tree.Named.{Named}
@@ -7,9 +7,8 @@ use Rattle.rx_syntax.specs.declared.tree.ExprTree.{ExprTree}
 use Rattle.rx_syntax.specs.declared.tree.LiteralTree.{LiteralTree}
 use Rattle.rx_syntax.specs.declared.tree.EnumAspect.{EnumAspect}
 use Rattle.rx_syntax.specs.declared.tree.DefTree.{DefTree}
-use Rattle.rx_types.specs.declared.scalar.Literal.{Literal}
-use Rattle.rx_types.specs.Domain.{Domain, Integer, Enumeration}
-use Rattle.rx_judge.specs.Meaning.{Meaning, ◌>>=◌, refused, refused_at, each_from}
+use Rattle.rx_types.specs.Domain.{Integer, Enumeration}
+use Rattle.rx_judge.specs.Meaning.{◌>>=◌, refused, refused_at, each_from}
 use Rattle.rx_judge.specs.Names.{Nothing}
 use Rattle.rx_judge.specs.Kinds.{is_number}
 use Rattle.rx_judge.specs.Scalar.{spelled, static_value, is_size, unsigned, is_range, range, number_or_place, number_of_literal, numbers_of, size_of_aspect, size_of_aspects, first_some, always_valid, given, number_at, literal_at, are_literals, enumeration, definition}
@@ -62,8 +61,8 @@ always_valid_same (alike.next alike.always ss) = refl
 
 -- the literals with these numbers, where they are those of the size
 measured_same : (name : Named) (zs : List ℤ) (n : ℤ) {ls ms : List LiteralTree} {xs ys : List EnumAspect} → AreSame IsSameLiteral ls ms → AreSame IsSameEnumAspect xs ys
-  → (if are_literals n zs then (each_from (literal_at zs) 0 ls >>= (λ literals. Ok (Enumeration literals (nat_abs n) (always_valid xs)))) else refused_at 20 name)
-  ≡ (if are_literals n zs then (each_from (literal_at zs) 0 ms >>= (λ literals. Ok (Enumeration literals (nat_abs n) (always_valid ys)))) else refused_at 20 name)
+    → (if are_literals n zs then (each_from (literal_at zs) 0 ls >>= (λ literals. Ok (Enumeration literals (nat_abs n) (always_valid xs)))) else refused_at 20 name)
+    ≡ (if are_literals n zs then (each_from (literal_at zs) 0 ms >>= (λ literals. Ok (Enumeration literals (nat_abs n) (always_valid ys)))) else refused_at 20 name)
 measured_same name zs n a b = ap (λ m. if are_literals n zs then m else refused_at 20 name) (bind_same (each_same 0 (λ i x y h. literal_at_same zs i h) a) (λ literals. ap (λ v. Ok (Enumeration literals (nat_abs n) v)) (always_valid_same b)))
 
 enumeration_same : (name : Named) {ls ms : List LiteralTree} {xs ys : List EnumAspect} → AreSame IsSameLiteral ls ms → AreSame IsSameEnumAspect xs ys → enumeration name ls xs ≡ enumeration name ms ys

@@ -1,5 +1,5 @@
 -- The shape of a message, and the sizes of its fields, are the same in messages that are the same.
-use Rattle.std.proofs.Common.{◌≡◌, ◌∙◌, ap, refl, ℕ, Bool, ◌&&◌, nat_le, List, length, Option, Ok}
+use Rattle.std.proofs.Common.{◌≡◌, ap, refl, ℕ, Bool, ◌&&◌, nat_le, List, length, Option, Ok}
 use Rattle.std.specs.Prelude.{if◌then◌else◌, slice_get}
 use Rattle.rx_syntax.specs.declared.tree.Named.{Named}
 use Rattle.rx_syntax.specs.declared.tree.ExprTree.{ExprTree}
@@ -8,7 +8,7 @@ use Rattle.rx_syntax.specs.declared.tree.ThenTree.{ThenTree}
 use Rattle.rx_syntax.specs.declared.tree.FieldTree.{FieldTree}
 use Rattle.rx_syntax.specs.declared.tree.MessageTree.{MessageTree}
 use Rattle.rx_graph.specs.Graph.{Arrow}
-use Rattle.rx_judge.specs.Meaning.{Meaning, ◌>>=◌, refused_at}
+use Rattle.rx_judge.specs.Meaning.{◌>>=◌, refused_at}
 use Rattle.rx_judge.specs.Table.{Entry}
 use Rattle.rx_links.specs.Counts.{counts_stand}
 use Rattle.rx_links.specs.declared.links.Way.{Way}
@@ -16,7 +16,7 @@ use Rattle.rx_elab.specs.Fields.{held_as, field_held}
 use Rattle.rx_elab.specs.Types.{type_named}
 use Rattle.rx_elab.specs.declared.fields.Held.{Held}
 use Rattle.rx_elab.specs.declared.types.KnownType.{KnownType}
-use Rattle.rx_spec.specs.Shape.{Shape, paths_stand, has_few, has_few_if_any, aspect_has_few, then_has_few, field_has_few, message_has_few, few_stand, ways_stand, ways_of, shape_of}
+use Rattle.rx_spec.specs.Shape.{paths_stand, has_few, has_few_if_any, aspect_has_few, then_has_few, field_has_few, message_has_few, few_stand, ways_stand, ways_of, shape_of}
 use Rattle.rx_spec.specs.Sizes.{held_sized, fields_sized}
 use Rattle.rx_trees.specs.Alike as alike
 use Rattle.rx_trees.specs.Alike.{AreSame, IsSameIfAny, IsSameExpr, IsSameAspect, IsSameThen, IsSameField, IsSameMessage}

@@ -1,5 +1,5 @@
 -- Packages that are the same stand alike in the first pass.
-use Rattle.std.proofs.Common.{◌≡◌, ◌∙◌, ap, refl, ℕ, Bool, ◌||◌, List, [], ◌∷◌, take, Option, Some, None, Result, Ok}
+use Rattle.std.proofs.Common.{◌≡◌, ◌∙◌, ap, refl, ℕ, Bool, ◌||◌, List, Option, Some, None, Ok}
 use Rattle.std.specs.Prelude.{slice_get, if◌then◌else◌}
 use Rattle.rx_syntax.specs.declared.token.Place.{Place}
 use Rattle.rx_syntax.specs.declared.tree.Named.{Named}
@@ -14,10 +14,10 @@ use Rattle.rx_syntax.specs.declared.tree.MessageTree.{MessageTree}
 use Rattle.rx_syntax.specs.declared.tree.FieldTree.{FieldTree}
 use Rattle.rx_syntax.specs.declared.tree.ThenTree.{ThenTree}
 use Rattle.rx_syntax.specs.declared.tree.AspectTree.{AspectTree}
-use Rattle.rx_judge.specs.Meaning.{Meaning, ◌>>=◌, refused}
+use Rattle.rx_judge.specs.Meaning.{Meaning, refused}
 use Rattle.rx_judge.specs.Table.{added, has}
 use Rattle.rx_elab.specs.Through.{through}
-use Rattle.rx_elab.specs.Stand.{Known, fresh, enum_aspect_name, enum_aspect_place, same_enum_aspect, enum_aspect_stands, literal_fresh, enumeration_stands, aspect_name, aspect_place, same_aspect, has_aspect, with_aspects, is_claimed, claimed, aspect_stands, aspects_stand, then_stands, field_stands, no_fields, message_stands, definition_stands, kind_stands, declaration_stands, built_in, is_named, withs_stand, header_stands, body_stands, package_stands}
+use Rattle.rx_elab.specs.Stand.{Known, fresh, enum_aspect_name, enum_aspect_place, same_enum_aspect, enum_aspect_stands, literal_fresh, enumeration_stands, aspect_name, aspect_place, same_aspect, with_aspects, is_claimed, claimed, aspect_stands, aspects_stand, then_stands, field_stands, no_fields, message_stands, definition_stands, kind_stands, declaration_stands, built_in, is_named, withs_stand, header_stands, body_stands, package_stands}
 use Rattle.rx_elab.specs.declared.stand.Seen.{Seen}
 use Rattle.rx_elab.specs.declared.stand.Declared.{Declared}
 use Rattle.rx_trees.specs.Alike as alike
@@ -103,8 +103,8 @@ field_stands_same s {f} {g} h =
     let stands = ap (λ (n : Named). aspects_stand s.linked (Some n.word) f.aspects.items) h.name ∙ aspects_stand_same s.linked (Some g.name.word) h.aspects in
     let after = ap (λ (n : Named). with_aspects s.owned n.word f.aspects.items) h.name ∙ with_aspects_same s.owned g.name.word h.aspects in
     bind_same (ap (fresh s.fields) h.name) (λ fields. bind_same stands (λ v.
-      ap (λ (k : Known). through then_stands (record { fields = fields; owned = k; linked = s.linked }) f.thens.items) after
-      ∙ through_same _ (λ t x y k. then_stands_same t k) h.thens))
+    ap (λ (k : Known). through then_stands (record { fields = fields; owned = k; linked = s.linked }) f.thens.items) after
+    ∙ through_same _ (λ t x y k. then_stands_same t k) h.thens))
 
 message_stands_same : {m n : MessageTree} → IsSameMessage m n → message_stands m ≡ message_stands n
 message_stands_same h = bind_same (through_same no_fields (λ s x y k. then_stands_same s k) h.start) (λ s. through_same s (λ t x y k. field_stands_same t k) h.fields)

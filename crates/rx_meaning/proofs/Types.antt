@@ -1,11 +1,11 @@
 -- Packages that are the same declare the same types.
-use Rattle.std.proofs.Common.{◌≡◌, ap, refl, List, ℕ, Result, Ok}
+use Rattle.std.proofs.Common.{◌≡◌, ap, refl, List, ℕ, Ok}
 use Rattle.rx_syntax.specs.declared.tree.Named.{Named}
 use Rattle.rx_syntax.specs.declared.tree.DefTree.{DefTree}
 use Rattle.rx_syntax.specs.declared.tree.DeclTree.{DeclTree}
 use Rattle.rx_syntax.specs.declared.tree.DeclKind.{DeclKind}
 use Rattle.rx_syntax.specs.declared.tree.PackageTree.{PackageTree}
-use Rattle.rx_judge.specs.Meaning.{Meaning, ◌>>=◌}
+use Rattle.rx_judge.specs.Meaning.{◌>>=◌}
 use Rattle.rx_judge.specs.Scalar.{spelled}
 use Rattle.rx_elab.specs.Types.{Types, with_definition, defined, kind_typed, type_declared, package_types}
 use Rattle.rx_trees.specs.Alike as alike

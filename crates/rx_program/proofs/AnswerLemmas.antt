@@ -1,14 +1,13 @@
 -- From what was found to the answer, over plain texts and input.
 use Rattle.std.proofs.Common.{◌≡◌, ℕ, ◌∷◌, [], List, Option, Some, None, IfSome, Result, Ok, Err, IfOk, subst, sym, refl}
-use Rattle.std.specs.Prelude.{slice_get}
 use Rattle.rx_io.specs.Shelf.{Texts}
 use Rattle.rx_types.specs.Domain.{Domain}
 use Rattle.rx_graph.specs.declared.spec.Spec.{Spec}
 use Rattle.rx_graph.specs.Elaborated.{IsSound}
-use Rattle.rx_graph.specs.Graph.{Graph, Specified, spec_of, domains_of}
+use Rattle.rx_graph.specs.Graph.{Graph, spec_of, domains_of}
 use Rattle.rx_spec.specs.Laws.{domains_in}
 use Rattle.rx_values.specs.Laws.{AreNamed}
-use Rattle.rx_report.specs.Reported.{messages_of, Passes, IsReported, HasOpen, Examines}
+use Rattle.rx_report.specs.Reported.{messages_of, Passes, IsReported, HasOpen}
 use Rattle.rx_report.specs.declared.reported.Reported.{Reported}
 use Rattle.rx_program.specs.declared.status.Status.{Status}
 use Rattle.rx_program.specs.declared.status.Status.TheVariants.{Done, NotAccepted, Words, Specification, Undecided, InputRefused, SinkFault, Limit, NoMemory}
@@ -16,11 +15,10 @@ use Rattle.rx_program.specs.declared.status.Status.TheVariants.{SourceFault as S
 use Rattle.rx_program.specs.declared.answer.Answer.{Answer}
 use Rattle.rx_program.specs.declared.answer.Answer.TheVariants as answer
 use Rattle.rx_program.specs.declared.words.Ask as code
-use Rattle.rx_program.specs.declared.words.Does as does
 use Rattle.rx_program.specs.declared.words.Does.TheVariants.{Checks, Decodes, Encodes}
 use Rattle.rx_program.specs.declared.closure.Packages.{Packages}
 use Rattle.rx_program.specs.declared.closure.Stop.{Stop}
-use Rattle.rx_program.specs.Words.{Does, asked_for, message_asked}
+use Rattle.rx_program.specs.Words.{Does, asked_for}
 use Rattle.rx_program.specs.Asked.{ask_of, does_of}
 use Rattle.rx_program.specs.Closure.{IsClosure}
 use Rattle.rx_program.specs.Stop.{Stops}

@@ -1,5 +1,5 @@
 -- What a request has for an answer, a request of the same packages has.
-use Rattle.std.proofs.Common.{◌≡◌, ℕ, List, [], ◌∷◌, sym, ap, ◌∙◌, subst, Some}
+use Rattle.std.proofs.Common.{◌≡◌, ℕ, List, [], ◌∷◌, sym, ap, ◌∙◌, subst}
 use Rattle.std.specs.Prelude.{slice_get}
 use Rattle.rx_graph.specs.Graph.{Graph, Specified}
 use Rattle.rx_report.specs.Reported.{messages_of, Passes, IsReported}

@@ -1,5 +1,5 @@
 -- A command has one answer: that of the package where the walk ends, or that of the packages that were all read.
-use Rattle.std.proofs.Common.{◌≡◌, ℕ, ◌⊎◌, inl, inr, true, false, List, [], ◌∷◌, Option, Some, None, refl, sym, ap, ◌∙◌, subst}
+use Rattle.std.proofs.Common.{◌≡◌, ℕ, ◌⊎◌, inl, inr, true, false, List, [], ◌∷◌, Some, None, refl, sym, ap, ◌∙◌, subst}
 use Rattle.rx_io.specs.Shelf.{Texts}
 use Rattle.rx_trees.specs.Laws.{OneTree}
 use Rattle.rx_meaning.specs.Laws.{OneMeaning}

@@ -13,7 +13,6 @@ use Rattle.rx_graph.specs.Elaborated.{IsSound}
 use Rattle.rx_graph.proofs.Sound.{exclusive_from_checks}
 use Rattle.rx_report.specs.Reported.{messages_of, IsReported, HasOpen}
 use Rattle.rx_report.specs.declared.reported.Reported.{Reported}
-use Rattle.rx_spec.specs.Elaboration.{elaborated}
 use Rattle.rx_spec.specs.Laws.{domains_in}
 use Rattle.rx_spec.specs.declared.fault.Told.{Told}
 use Rattle.rx_program.specs.Words.{Does, Checks, Decodes, Encodes, message_asked}

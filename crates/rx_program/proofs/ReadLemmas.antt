@@ -1,12 +1,11 @@
 -- An input that a command answers was read to its end.
-use Rattle.std.proofs.Common.{◌≡◌, ◌⊎◌, inl, inr, Bool, true, false, List, ℕ, Option, Some, None, Result, Ok, Err, IfOk, sym, ap, ◌∙◌}
+use Rattle.std.proofs.Common.{◌≡◌, ◌⊎◌, inl, inr, Bool, true, false, List, ℕ, Some, None, Result, Ok, Err, IfOk, sym, ap, ◌∙◌}
 use Rattle.std.specs.Prelude.{if◌then◌else◌, ◌==◌}
 use Rattle.rx_program.specs.declared.status.Status.{Status}
 use Rattle.rx_program.specs.declared.status.Status.TheVariants as status
 use Rattle.rx_program.specs.declared.answer.Answer.{Answer}
 use Rattle.rx_program.specs.declared.answer.Answer.TheVariants.{Usage, ShelfFault, NoPackage, TextLimit, Refused, PackageLimit, Unserved, Broken, NoMessage, Checked, Rejected, SourceFault, InputLimit, Input, Output}
-use Rattle.rx_program.specs.declared.answer.Decoding.TheVariants.{Json, Stuck}
-use Rattle.rx_program.specs.Words.{Ask, asked_for, message_asked, HaveInput, HaveNoInput}
+use Rattle.rx_program.specs.Words.{Ask, message_asked, HaveInput, HaveNoInput}
 use Rattle.rx_program.specs.Input.{IsOfInput, IsOfWhole, IsOfAll}
 use Rattle.rx_program.specs.Outcome.{status_of, IsShown, ReadsAll}
 

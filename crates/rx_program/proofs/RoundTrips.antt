@@ -1,5 +1,5 @@
 -- What one command encoded another decodes as the same values, and what one decoded another encodes as the same buffer.
-use Rattle.std.proofs.Common.{◌≡◌, ℕ, Bool, true, false, List, [], ◌∷◌, ◌++◌, refl, sym, ap, ◌∙◌, subst, Some, Ok, if◌then◌else◌}
+use Rattle.std.proofs.Common.{◌≡◌, ℕ, Bool, true, false, List, [], refl, sym, ap, ◌∙◌, subst, Some, Ok, if◌then◌else◌}
 use Rattle.std.specs.Prelude.{◌==◌}
 use Rattle.rx_io.specs.Shelf.{Texts}
 use Rattle.rx_types.specs.Domain.{Domain}
@@ -21,18 +21,15 @@ use Rattle.rx_encode.specs.Laws.{IsBuffer}
 use Rattle.rx_encode.specs.declared.encoding.Encoded.{Encoded}
 use Rattle.rx_encode.specs.declared.encoding.Encoded.TheVariants as encoded
 use Rattle.rx_encode.proofs.RoundTrip.{printed_is_encoded, encoded_reads}
-use Rattle.rx_report.specs.declared.reported.Reported.{Reported}
 use Rattle.rx_program.specs.Words.{Does, Ask, Checks, Decodes, Encodes, message_asked}
 use Rattle.rx_program.specs.Closure.{IsClosure}
 use Rattle.rx_program.specs.Request.{Request, Finds, Serves}
 use Rattle.rx_program.specs.Answers.{Asks, Answers}
-use Rattle.rx_program.specs.Outcome.{Outcome, IsText, line, status_of, status_of_rejected}
+use Rattle.rx_program.specs.Outcome.{Outcome, IsText, line, status_of}
 use Rattle.rx_program.specs.RoundTrips.{AskThat, AskBoth, IsJsonOfText, EncodedIsDecoded, DecodedIsEncoded}
-use Rattle.rx_program.specs.declared.status.Status.{Status}
 use Rattle.rx_program.specs.declared.status.Status.TheVariants.{Done, NotAccepted, Words, Specification, Undecided, InputRefused, Limit}
 use Rattle.rx_program.specs.declared.status.Status.TheVariants.{SourceFault as SourceStatus, ShelfFault as ShelfStatus}
 use Rattle.rx_program.specs.declared.answer.Decoding.TheVariants.{Json, Stuck}
-use Rattle.rx_program.specs.declared.answer.Encoding.{Encoding}
 use Rattle.rx_program.specs.declared.answer.Encoding.TheVariants as encoding
 use Rattle.rx_program.specs.declared.answer.Answer.{Answer}
 use Rattle.rx_program.specs.declared.answer.Answer.TheVariants.{Usage, ShelfFault, NoPackage, TextLimit, Refused, PackageLimit, Unserved, Broken, NoMessage, Checked, Rejected, SourceFault, InputLimit, Input, Output}

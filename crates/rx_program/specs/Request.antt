@@ -4,7 +4,6 @@
 --   Means, Finds, Serves     what they mean, the message in it that is asked for, and that it is served: its checks pass, so it is sound
 --   AnswersTo r input a      the answers by cases
 use Rattle.std.specs.Prelude.{◌≡◌, ◌⊎◌, ℕ, ◌<◌, ◌≤◌, List, [], ◌∷◌, length, Some, None, Ok, Err, slice_get}
-use Rattle.rx_syntax.specs.declared.token.Place.{Place}
 use Rattle.rx_syntax.specs.declared.tree.PackageTree.{PackageTree}
 use Rattle.rx_graph.specs.Elaborated.{IsSound}
 use Rattle.rx_graph.specs.Graph.{Graph, Specified}

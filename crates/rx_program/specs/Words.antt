@@ -1,8 +1,8 @@
 -- What the words of a command ask for.
 --   Does, Ask         what is done, with which package, and how many splits a query may take
 --   asked_for words   what the words ask for, if they have the form of a command that is served
-use Rattle.std.specs.Prelude.{◌≡◌, ℕ, Bool, true, false, List, Option, Some, None, option_and_then}
-use Rattle.rx_words.specs.Words.{Asked, Check, Decode, Encode, Run, Load, Wanted, form_of}
+use Rattle.std.specs.Prelude.{◌≡◌, ℕ, List, Option, Some, None, option_and_then}
+use Rattle.rx_words.specs.Words.{Asked, Check, Decode, Encode, Run, Load, form_of}
 
 -- all messages of the package are checked, or an input is decoded or encoded as this message of it
 pub data Does : Type 0 where

@@ -16,7 +16,7 @@ returns-in-Decodes-clause-answers g c =
     let passes = c.requires.passes in
     let sound = c.reports_show_soundness.ensures c.args.ask.now.splits passes.report passes.is passes.passed in
     answers_read c.args.ask.now c.args.packages.now c.args.spec.now (graph_of c.args.message.now) (g.I.Source.left c.args.input.now) _ c.read_input.result (record { finds = c.requires.finds; passes = passes; sound = sound; named = c.all_are_named.ensures })
-        (ap does_of c.in-Decodes.is) c.read_input.ensures.read
+    (ap does_of c.in-Decodes.is) c.read_input.ensures.read
 
 pub returns-in-Decodes-clause-one : goal.returns-in-Decodes-clause-one
 returns-in-Decodes-clause-one g c = input_not_all c.read_input.result c.read_input.ensures.never
@@ -26,7 +26,7 @@ returns-in-Encodes-clause-answers g c =
     let passes = c.requires.passes in
     let sound = c.reports_show_soundness.ensures c.args.ask.now.splits passes.report passes.is passes.passed in
     answers_written c.args.ask.now c.args.packages.now c.args.spec.now (graph_of c.args.message.now) (g.I.Source.left c.args.input.now) _ c.write_input.result (record { finds = c.requires.finds; passes = passes; sound = sound; named = c.all_are_named.ensures })
-        (ap does_of c.in-Encodes.is) c.write_input.ensures.written
+    (ap does_of c.in-Encodes.is) c.write_input.ensures.written
 
 pub returns-in-Encodes-clause-one : goal.returns-in-Encodes-clause-one
 returns-in-Encodes-clause-one g c = input_not_all c.write_input.result c.write_input.ensures.never

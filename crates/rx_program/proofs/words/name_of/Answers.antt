@@ -1,4 +1,4 @@
-use Rattle.std.proofs.Common.{◌≡◌, subst, sym, List, ℕ}
+use Rattle.std.proofs.Common.{subst, sym}
 use Rattle.rx_types.specs.Names.{IsName}
 use Rattle.rx_program.proofs.WordLemmas.{name_is}
 use Rattle.rx_program.proofs.words.name_of.Goals as goal
