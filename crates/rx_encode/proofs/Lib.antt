@@ -2,5 +2,5 @@ mod Escapes
 pub mod OneAnswer
 mod Printed
 pub mod RoundTrip
-mod Valued
+pub mod Valued
 mod Walked

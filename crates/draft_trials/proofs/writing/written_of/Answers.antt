@@ -1,6 +1,6 @@
 use Rattle.std.proofs.Common.{arith}
 use Rattle.rx_graph.specs.Graph.{domains_of, graph_of}
-use Rattle.draft_trials.proofs.Valued.{have_kinds}
+use Rattle.rx_encode.proofs.Valued.{have_kinds}
 use Rattle.draft_trials.proofs.writing.written_of.Goals as goal
 
 pub from_json-requires : goal.from_json-requires
