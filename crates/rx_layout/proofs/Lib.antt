@@ -23,6 +23,7 @@ pub mod TypesFit
 pub mod Units
 pub mod Whole
 pub mod Joining
+pub mod Linked
 pub mod Listing
 pub mod Lists
 pub mod Meeting

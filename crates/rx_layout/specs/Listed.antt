@@ -2,6 +2,7 @@
 --   nodes_of m          the start, then the fields in the order of the text
 --   links_at m node     the links of a node, in their order
 --   is_checked, goal_of whether a link has such a check, and the goal that it makes
+--   goal_on             the goal that speaks of two links, of a field, or of one link
 --   all_goals           all goals of the message
 use Rattle.std.specs.Prelude.{◌≡◌, ◌⊎◌, List, [], ◌∷◌, ◌++◌, filter, ℕ, ◌+◌, Bool, true, false, if◌then◌else◌, Option, Some, None, slice_get}
 use Rattle.std.specs.List.{flat_map}
@@ -15,6 +16,8 @@ use Rattle.rx_layout.specs.declared.goal.Goal.{Goal}
 use Rattle.rx_layout.specs.declared.goal.Goal.TheVariants as goal
 use Rattle.rx_layout.specs.declared.checklist.LinkCheck.{LinkCheck}
 use Rattle.rx_layout.specs.declared.checklist.LinkCheck.TheVariants.{Taken, Position, Grid, Overlay, Cover, Whole}
+use Rattle.rx_layout.specs.declared.checklist.Subject.{Subject}
+use Rattle.rx_layout.specs.declared.checklist.Subject.TheVariants.{Links, Field as Of, Link}
 
 -- ---- nodes and links
 
@@ -50,6 +53,12 @@ goal_of Grid node n = goal.Grid node n
 goal_of Overlay node n = goal.Overlay node n
 goal_of Cover node n = goal.Cover node n
 goal_of Whole node n = goal.Whole node n
+
+-- the goal that speaks of this
+abbrev pub goal_on : Subject → Goal
+goal_on (Links node a b) = goal.Exclusive node a b
+goal_on (Of f) = goal.Reached f
+goal_on (Link check node n) = goal_of check node n
 
 module _ (domains : List Domain) (m : Graph) where
   -- Taken and Cover are asked of every link, Position of those into a field, Grid of those into bytes, Overlay of those into an

@@ -15,7 +15,7 @@ ghost use Rattle.rx_layout.specs.Goals.{IsGoal, HasLink, LeadsToBytes};
 ghost use Rattle.rx_layout.specs.Made.{asked_link, behind, after_any, after_target, IsTarget, grid_units, size_behind, formula_behind, units_behind};
 ghost use Rattle.rx_layout.specs.QueryOf.{goal_step, asked_of, unit_rows, null_formula, link_numbered, interval_or, rest_interval, taken_asked, position_asked, grid_asked, overlay_on, overlay_asked, cover_asked, cover_to, whole_asked, asked_by, with_link};
 
-use crate::checklist::{LinkCheck, leaves};
+use crate::checklist::{LinkCheck, Subject, leaves, subject_of};
 use crate::fields::overlay_of;
 use crate::formula::{
     cover_formula, grid_formula, last_end, no_multiple, null_formula, overlay_formula,
@@ -651,64 +651,13 @@ pub fn ask(
     ensures fits { OnOk result ((n : ℕ) → builder.new.work.next ≤ n → IsFitting n (front_of builder.old) → IsFitting n (front_of builder.new)) }
     ensures room { OnOk result (builder.new.work.next ≤ 192) }
 {
-    match goal {
-        Goal::Exclusive(node, one, other) => {
-            ask_both(alloc, *node, *one, *other, message, scalars, builder)
+    match subject_of(goal) {
+        Subject::Links(node, one, other) => {
+            ask_both(alloc, node, one, other, message, scalars, builder)
         }
-        Goal::Reached(_) => Ok(()),
-        Goal::Taken(node, number) => ask_numbered(
-            alloc,
-            LinkCheck::Taken,
-            *node,
-            *number,
-            message,
-            scalars,
-            builder,
-        ),
-        Goal::Position(node, number) => ask_numbered(
-            alloc,
-            LinkCheck::Position,
-            *node,
-            *number,
-            message,
-            scalars,
-            builder,
-        ),
-        Goal::Grid(node, number) => ask_numbered(
-            alloc,
-            LinkCheck::Grid,
-            *node,
-            *number,
-            message,
-            scalars,
-            builder,
-        ),
-        Goal::Overlay(node, number) => ask_numbered(
-            alloc,
-            LinkCheck::Overlay,
-            *node,
-            *number,
-            message,
-            scalars,
-            builder,
-        ),
-        Goal::Cover(node, number) => ask_numbered(
-            alloc,
-            LinkCheck::Cover,
-            *node,
-            *number,
-            message,
-            scalars,
-            builder,
-        ),
-        Goal::Whole(node, number) => ask_numbered(
-            alloc,
-            LinkCheck::Whole,
-            *node,
-            *number,
-            message,
-            scalars,
-            builder,
-        ),
+        Subject::Field(_) => Ok(()),
+        Subject::Link(check, node, number) => {
+            ask_numbered(alloc, check, node, number, message, scalars, builder)
+        }
     }
 }

@@ -6,7 +6,7 @@ ghost use Rattle.rx_graph.specs.Elaborated.{IsElaborated};
 ghost use Rattle.rx_types.specs.Domain.{Domain};
 ghost use Rattle.rx_graph.specs.Graph.{Arrow, Graph, arrow_of, domains_of, graph_of, type_of, overlay_of};
 ghost use Rattle.rx_forms.specs.Code.{domains_in};
-ghost use Rattle.rx_layout.specs.Listed.{all_goals, is_absent, is_present, is_checked, goal_of, links_at, checks_from, checks_of, pairs_with, pairs_from, pairs_of, reached_from};
+ghost use Rattle.rx_layout.specs.Listed.{all_goals, is_absent, is_present, is_checked, goal_of, goal_on, links_at, checks_from, checks_of, pairs_with, pairs_from, pairs_of, reached_from};
 
 use crate::fault::NoMemory;
 use crate::goal::Goal;
@@ -24,6 +24,32 @@ pub enum LinkCheck {
     Overlay,
     Cover,
     Whole,
+}
+
+/// What a goal speaks of.
+#[derive(Clone, Copy, Debug, PartialEq, Eq)]
+pub enum Subject {
+    /// Two links of a node.
+    Links(Node, u16, u16),
+    Field(FieldId),
+    /// One link of a node, and what is checked of it.
+    Link(LinkCheck, Node, u16),
+}
+
+/// What a goal speaks of.
+pub fn subject_of(goal: &Goal) -> Subject
+    ensures { goal.now ≡ goal_on result }
+{
+    match goal {
+        Goal::Exclusive(node, one, other) => Subject::Links(*node, *one, *other),
+        Goal::Taken(node, number) => Subject::Link(LinkCheck::Taken, *node, *number),
+        Goal::Reached(field) => Subject::Field(*field),
+        Goal::Position(node, number) => Subject::Link(LinkCheck::Position, *node, *number),
+        Goal::Grid(node, number) => Subject::Link(LinkCheck::Grid, *node, *number),
+        Goal::Overlay(node, number) => Subject::Link(LinkCheck::Overlay, *node, *number),
+        Goal::Cover(node, number) => Subject::Link(LinkCheck::Cover, *node, *number),
+        Goal::Whole(node, number) => Subject::Link(LinkCheck::Whole, *node, *number),
+    }
 }
 
 // ---- the checks of one link

@@ -10,8 +10,6 @@ mod goal;
 mod laws;
 mod parts;
 mod querying;
-#[cfg(test)]
-mod tests;
 mod types;
 
 pub use checklist::goals;
