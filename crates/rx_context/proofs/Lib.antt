@@ -1,12 +1,7 @@
 pub mod Arrows
-pub mod Operators
-pub mod Chains
 pub mod Ends
-pub mod Grid
-pub mod Headed
 pub mod Lookup
 pub mod OnPath
-pub mod Overlays
 pub mod Placing
 pub mod Spans
 pub mod Standing

@@ -1,8 +1,0 @@
-use Rattle.std.proofs.Common.{◌≡◌, drop}
-use Rattle.std.specs.Prelude.{max}
-use Rattle.rx_types.specs.Domain.{greatest, numbers_of}
-use Rattle.rx_context.proofs.bounding.greatest_literal.Given as goal
-
--- the greatest so far, and of the rest
-abbrev pub invariant-loop-literal : goal.invariant-loop-literal
-invariant-loop-literal l = greatest (numbers_of l.literals) ≡ max l.best (greatest (numbers_of (drop l.literal-index l.literals)))
