@@ -1,24 +1,12 @@
 //! The meaning of packages: which names stand for what, their scalar types, and what is written of their messages.
 #![tactic(auto)]
 
-#[cfg(test)]
-mod expression_tests;
 mod fault;
 mod fields;
-#[cfg(test)]
-mod first_tests;
 mod firsts;
 mod layings;
-#[cfg(test)]
-mod message_tests;
 mod parts;
 mod stand;
-#[cfg(test)]
-mod stand_tests;
-#[cfg(test)]
-mod tests;
-#[cfg(test)]
-mod type_tests;
 mod types;
 
 pub use fault::refused_with;

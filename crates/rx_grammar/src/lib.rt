@@ -13,8 +13,6 @@ mod parse;
 mod part;
 mod syntax;
 mod terminal;
-#[cfg(test)]
-mod tests;
 
 pub use cursor::{
     Cursor, Limits, named, pushed, sees, sees_either, sees_one, start, take, take_name, take_one,

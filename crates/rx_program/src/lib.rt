@@ -4,8 +4,6 @@
 mod adapters;
 mod answer;
 mod closure;
-#[cfg(test)]
-mod closure_tests;
 mod fault;
 mod inputs;
 pub mod laws;
@@ -15,10 +13,6 @@ mod refusal;
 mod serving;
 mod stage;
 mod status;
-#[cfg(test)]
-mod tests;
-#[cfg(test)]
-mod text_tests;
 mod top;
 mod words;
 

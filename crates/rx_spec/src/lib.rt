@@ -13,8 +13,6 @@ mod operators;
 mod packages;
 mod shape;
 mod sizes;
-#[cfg(test)]
-mod tests;
 mod ways;
 
 pub use elaboration::elaborate;

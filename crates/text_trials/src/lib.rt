@@ -4,6 +4,8 @@
 #[cfg(test)]
 mod faults;
 #[cfg(test)]
+mod packages;
+#[cfg(test)]
 mod sentences;
 #[cfg(test)]
 mod tokens;

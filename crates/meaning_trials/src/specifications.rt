@@ -1,24 +1,13 @@
 //! Worked packages, with what they mean, or what is refused of them first.
 
-use crate::{SpecFault, elaborate};
-use rx_grammar::parse_package;
+use crate::worked::tree_of;
 use rx_graph::{Link, Message, Node, Spec};
 use rx_judge::spelled;
-use rx_syntax::{PackageTree, lex};
+use rx_spec::{SpecFault, elaborate};
+use rx_syntax::PackageTree;
 use rx_types::{Expr, FieldType, Name, Operator};
 use std::alloc::Global;
 use std::test::Fail;
-
-// The tree of a text.
-fn tree_of(alloc: Global, text: &str) -> Result<PackageTree, Fail> {
-    let bytes = text.as_bytes();
-    if bytes.len() > 1_048_576 {
-        return Err(Fail::new("the text is too long"));
-    }
-    let tokens = lex(alloc, bytes)?;
-    let tree = parse_package(alloc, &tokens)?;
-    Ok(tree)
-}
 
 // Adds a package, which is asked for under its own name.
 fn add(

@@ -1,7 +1,7 @@
 //! Scalar types: their numbers, and what is refused of them.
 
-use crate::tests::{add_types, messages_stand, of_types, told, tree_of, types_of};
-use crate::{KnownScalar, KnownType};
+use crate::worked::{add_types, messages_stand, of_types, told, tree_of, types_of};
+use rx_elab::{KnownScalar, KnownType};
 use rx_judge::KnownLiteral;
 use rx_types::Kind;
 use std::alloc::Global;

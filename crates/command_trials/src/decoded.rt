@@ -1,6 +1,6 @@
-//! Tests of whole commands over objects in memory, and one of each object of the real world.
-use crate::{FolderShelf, Status, StdSink, StdSource, run};
+//! The command `decode` over objects in memory, and one trial of each object of the real world.
 use rx_io::{Fetched, MemoryShelf, MemorySink, MemorySource, Shelf, Sink, Source};
+use rx_program::{FolderShelf, Status, StdSink, StdSource, run};
 use std::alloc::Global;
 use std::test::Fail;
 

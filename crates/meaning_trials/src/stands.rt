@@ -1,7 +1,7 @@
 //! What is declared twice, and names of packages and ends that stand for nothing.
 
-use crate::package_stands;
-use crate::tests::{of_message, of_types, told, tree_of};
+use crate::worked::{of_message, of_types, told, tree_of};
+use rx_elab::package_stands;
 use rx_types::Name;
 use std::alloc::Global;
 use std::test::Fail;

@@ -1,7 +1,7 @@
-//! Tests of commands over several packages: which are read, in which order, and how many.
-use crate::tests::decode_words;
-use crate::{Status, run};
+//! Commands over several packages: which are read, in which order, and how many.
+use crate::decoded::decode_words;
 use rx_io::{MemoryShelf, MemorySink, MemorySource};
+use rx_program::{Status, run};
 use std::alloc::Global;
 use std::test::Fail;
 

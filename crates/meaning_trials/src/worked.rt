@@ -1,6 +1,6 @@
 //! Worked packages, with what is refused of them first.
 
-use crate::{
+use rx_elab::{
     Held, MessageParts, Types, built_in_types, fields_held, layings_of, message_parts,
     package_stands, package_types,
 };

@@ -1,6 +1,6 @@
-//! Tests of what is told of one text: each refusal with its place, and an answer to any bytes.
-use crate::Status;
-use crate::tests::decoded;
+//! What is told of one text: each refusal with its place, and an answer to any bytes.
+use crate::decoded::decoded;
+use rx_program::Status;
 use std::alloc::Global;
 use std::test::Fail;
 

@@ -1,4 +1,5 @@
-use super::*;
+//! Whole packages, the places of their faults, their limits, and their longest parts.
+use rx_grammar::{Part, SyntaxFault, parse_package, parse_part, trees_derive};
 use rx_syntax::lex;
 use std::alloc::Global;
 use std::test::Fail;

@@ -1,7 +1,7 @@
 //! Messages: what their fields hold, where their links go, and what is refused of them.
 
-use crate::tests::{TLV, of_message, parts_of, told, tree_of, types_of};
-use crate::{Held, KnownScalar, fields_held};
+use crate::worked::{TLV, of_message, parts_of, told, tree_of, types_of};
+use rx_elab::{Held, KnownScalar, fields_held};
 use rx_links::{Stop, Way, counts_stand, links_of, positions};
 use rx_syntax::{DeclKind, DefTree, MessageTree, PackageTree};
 use rx_types::{Expr, Kind};

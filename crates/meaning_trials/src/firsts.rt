@@ -1,6 +1,6 @@
 //! Firsts: their two forms, and what is refused of them.
 
-use crate::tests::of_message;
+use crate::worked::of_message;
 use std::test::Fail;
 
 #[test]

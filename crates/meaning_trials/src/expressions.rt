@@ -1,6 +1,6 @@
 //! Expressions of a message: what their names and operators mean, and what is refused of them.
 
-use crate::tests::{of_message, tree_of};
+use crate::worked::{of_message, tree_of};
 use rx_judge::{
     FieldKind, Judged, KnownField, KnownLiteral, Names, Scope, Table, judge, static_value,
 };
