@@ -2,7 +2,6 @@ pub mod Bits
 pub mod Collected
 pub mod Contents
 pub mod Fitting
-pub mod Framed
 pub mod OneText
 pub mod Own
 pub mod Typed

@@ -5,10 +5,6 @@ mod decoding;
 mod fault;
 mod gathering;
 mod laws;
-#[cfg(test)]
-mod tests;
-#[cfg(test)]
-mod worked;
 
 pub use decoding::{Decoded, decode};
 pub use fault::NoMemory;

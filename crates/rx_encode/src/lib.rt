@@ -6,8 +6,6 @@ mod fault;
 mod keys;
 mod laws;
 mod naming;
-#[cfg(test)]
-mod tests;
 
 pub use encoding::{Encoded, encode};
 pub use fault::NoMemory;

@@ -1,0 +1,4 @@
+pub mod Counting
+pub mod Elaborated
+pub mod Going
+pub mod Growing
