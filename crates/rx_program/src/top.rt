@@ -89,7 +89,7 @@ fn answer<H: Shelf, I: Source>(
 
 /// Runs a command. What is written to `out`, and the status, are those of the answer to the words, the texts on the
 /// shelf and the input, where shelf and input tell them; with a fault of `out`, a front of the answer's text.
-/// The other clauses hold of all shelves, inputs and outputs, also of those that tell nothing.
+/// The other clauses hold of all shelves, inputs and outputs; `same` and `at_end` speak of one that tells its contents.
 pub fn run<H: Shelf, I: Source, O: Sink>(
     alloc: Global,
     words: &[String],
