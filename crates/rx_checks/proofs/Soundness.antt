@@ -1,6 +1,6 @@
--- A message is sound where every line of a report of it has passed.
-use Rattle.std.proofs.Common.{◌≡◌, sym, subst, ℕ, zero, suc, ◌<◌, arith, List, [], ◌∷◌, map, length, Bool, true, false, inl, inr}
-use Rattle.std.specs.Prelude.{Contains, slice_index_or}
+-- What verdicts and reports show: that checks hold or do not, and that a message is sound and has one reading.
+use Rattle.std.proofs.Common.{◌≡◌, sym, subst, ◌∙◌, ℕ, zero, suc, ◌<◌, arith, List, [], ◌∷◌, map, length, Bool, true, false, inl, inr}
+use Rattle.std.specs.Prelude.{Contains, not, slice_index_or}
 use Rattle.std.specs.List.{AllByRecursion}
 use Rattle.rx_types.specs.Domain.{Domain}
 use Rattle.rx_types.specs.Environment.{Placed}
@@ -9,7 +9,12 @@ use Rattle.rx_graph.specs.declared.message.Node.TheVariants.{Start, At}
 use Rattle.rx_graph.specs.Graph.{Graph, limit_of}
 use Rattle.rx_graph.specs.Cycles.{IsPath, ArePathsTo}
 use Rattle.rx_graph.specs.Paths.{Leads}
-use Rattle.rx_graph.specs.Elaborated.{IsElaborated}
+use Rattle.rx_graph.specs.Elaborated.{IsElaborated, IsSound}
+use Rattle.rx_graph.specs.Fits.{Fits}
+use Rattle.rx_graph.proofs.Lengths.{length_fits}
+use Rattle.rx_graph.proofs.OneFit.{one_fit}
+use Rattle.rx_graph.proofs.Sound.{exclusive_from_checks}
+use Rattle.rx_graph.proofs.Unique.{one_path}
 use Rattle.rx_forms.specs.Steps.{AreFormable, AreNarrow}
 use Rattle.rx_proof.specs.declared.proof.Proof.{Proof}
 use Rattle.rx_proof.proofs.Exclusion.{accepts_sound}
@@ -29,7 +34,7 @@ use Rattle.rx_checks.specs.declared.verdict.Verdict.TheVariants.{Passed, Failed,
 use Rattle.rx_checks.specs.declared.report.Line.{Line}
 use Rattle.rx_checks.specs.Verdicts
 use Rattle.rx_checks.specs.Reports.{HasPassed, AllPassed}
-use Rattle.rx_checks.specs.Laws.{ReportsShowSoundness}
+use Rattle.rx_checks.specs.Laws.{HasFailed, VerdictsAreTrue, HasOneReading, ReportsShowSoundness, ReportsShowOneReading}
 
 at_place : (P : List ℕ → Type 0) (xs : List (List ℕ)) (p : List ℕ) (k : ℕ) → k < length xs → slice_index_or xs k p ≡ p → AllByRecursion P xs → P p
 at_place P [] p k h e all = absurd (omega (arith, h))
@@ -77,6 +82,18 @@ module _ (domains : List Domain) (m : Graph) (el : IsElaborated domains m) (form
     passed_holds (Failed evidence) is h passed = absurd passed
     passed_holds (Undecided path tree) is h passed = absurd passed
 
+    -- what shows the other verdict leaves the goal not to hold
+    failed_breaks : (b : Bool) (paths : List (List ℕ)) (evidence : Evidence) → IsGoal domains m goal → ArePathsTo m (source goal) paths → Verdicts.IsShownBy domains m splits goal (not b) paths evidence → Goals.HoldsIf domains m b goal → ⊥
+    failed_breaks true paths (Proofs proofs) is are h holds = absurd h
+    failed_breaks true paths (Found path total numbers) is are h holds = holds total path h.1.fields h.1.met
+    failed_breaks false paths (Proofs proofs) is are h holds = met_by_none paths is are (all_empty paths proofs.items h) holds.0 holds.1 holds.2 holds.3
+    failed_breaks false paths (Found path total numbers) is are h holds = absurd h
+
+    failed_fails : (verdict : Verdict) → IsGoal domains m goal → Verdicts.StandsFor domains m splits goal verdict → HasFailed verdict → GoalHolds domains m goal → ⊥
+    failed_fails (Passed evidence) is h failed = absurd failed
+    failed_fails (Failed evidence) is h failed = failed_breaks (is_universal goal) h.0 evidence is h.1 h.2
+    failed_fails (Undecided path tree) is h failed = absurd failed
+
   listed_holds : (lines : List Line) (goal : Goal) → AllByRecursion (λ line. Verdicts.StandsFor domains m splits line.goal line.verdict) lines → AllPassed lines → IsGoal domains m goal → Among goal (map (λ line. line.goal) lines) → GoalHolds domains m goal
   listed_holds [] goal stand passed is among = absurd among
   listed_holds (line ∷ lines) goal stand passed is (inl e) =
@@ -89,3 +106,24 @@ show_soundness domains m el formable narrow splits r h passed =
   where
     all : AllGoalsHold domains m
     all goal is = listed_holds domains m el formable narrow splits r.lines.items goal h.stand passed is (subst (λ goals. Among goal goals) (sym h.goals) (goals_are_listed domains m el goal is))
+
+pub true_verdicts : (domains : List Domain) (m : Graph) → IsElaborated domains m → AreFormable (limit_of domains m) m → AreNarrow (limit_of domains m) m → VerdictsAreTrue domains m
+true_verdicts domains m el formable narrow splits goal verdict is stands =
+    (passed_holds domains m el formable narrow splits goal verdict is stands, failed_fails domains m el formable narrow splits goal verdict is stands)
+
+-- ---- one reading
+
+one_reading : (domains : List Domain) (m : Graph) → IsSound domains m → HasOneReading domains m
+one_reading domains m sound =
+    let exclusive = exclusive_from_checks domains m sound.holds in
+    record {
+      buffer = one_path domains m exclusive;
+      valuation = λ values total other_total path other fields more ascending f g.
+          let same : total ≡ other_total = sym (length_fits domains m sound values ascending total path fields f) ∙ length_fits domains m sound values ascending other_total other more g in
+          let one = one_fit domains m values exclusive total path other fields more f (subst (λ t. Fits domains m values t other more) (sym same) g) in
+          (same, one.0, one.1);
+      sized = λ values total path fields ascending f. length_fits domains m sound values ascending total path fields f;
+    }
+
+pub show_one_reading : (domains : List Domain) (m : Graph) → IsElaborated domains m → AreFormable (limit_of domains m) m → AreNarrow (limit_of domains m) m → ReportsShowOneReading domains m
+show_one_reading domains m el formable narrow splits r h passed = one_reading domains m (show_soundness domains m el formable narrow splits r h passed)

@@ -16,6 +16,8 @@ mod verdict;
 pub use acceptance::accepted;
 pub use checking::check;
 pub use fault::NoMemory;
-pub use laws::{reports_are_one, reports_show_soundness};
+pub use laws::{
+    reports_are_one, reports_show_one_reading, reports_show_soundness, verdicts_are_true,
+};
 pub use report::{Line, Report};
 pub use verdict::{Evidence, Verdict};

@@ -1,13 +1,17 @@
--- An input that a command answers was read to its end.
-use Rattle.std.proofs.Common.{◌≡◌, ◌⊎◌, inl, inr, Bool, true, false, List, ℕ, Some, None, Result, Ok, Err, IfOk, sym, ap, ◌∙◌}
+-- An input that a command answers was read to its end; another one is left alone.
+use Rattle.std.proofs.Common.{◌≡◌, ◌⊎◌, inl, inr, Bool, true, false, List, ℕ, Some, None, Result, Ok, Err, IfOk, refl, sym, ap, ◌∙◌}
 use Rattle.std.specs.Prelude.{if◌then◌else◌, ◌==◌}
 use Rattle.rx_program.specs.declared.status.Status.{Status}
 use Rattle.rx_program.specs.declared.status.Status.TheVariants as status
 use Rattle.rx_program.specs.declared.answer.Answer.{Answer}
 use Rattle.rx_program.specs.declared.answer.Answer.TheVariants.{Usage, ShelfFault, NoPackage, TextLimit, Refused, PackageLimit, Unserved, Broken, NoMessage, Checked, Rejected, SourceFault, InputLimit, Input, Output}
+use Rattle.rx_program.specs.declared.answer.Decoding.{Decoding}
+use Rattle.rx_program.specs.declared.answer.Decoding.TheVariants.{Json, Stuck}
+use Rattle.rx_program.specs.declared.answer.Encoding.{Encoding}
+use Rattle.rx_program.specs.declared.answer.Encoding.TheVariants.{Bytes, NotJson, NotObject, UnknownField, BadValue, Duplicate, Unsatisfied, Unused}
 use Rattle.rx_program.specs.Words.{Ask, message_asked, HaveInput, HaveNoInput}
 use Rattle.rx_program.specs.Input.{IsOfInput, IsOfWhole, IsOfAll}
-use Rattle.rx_program.specs.Outcome.{status_of, IsShown, ReadsAll}
+use Rattle.rx_program.specs.Outcome.{status_of, status_of_encoding, IsShown, ReadsAll, LeavesInput}
 
 not_all : (a : Answer) → IsOfInput a → IsOfAll a → ⊥
 not_all Usage is all = absurd is
@@ -99,3 +103,71 @@ reads_all a status.ShelfFault E words shown whole all has = tt
 reads_all a status.SinkFault E words shown whole all has = tt
 reads_all a status.Limit E words shown whole all has = tt
 reads_all a status.NoMemory E words shown whole all has = tt
+
+-- what is answered of an input says nothing of one that was left alone
+pub input_is_read : {E : Type 0} (res : Result Answer E) (same : Type 0) → IfOk res IsOfInput → IfOk res (λ a. (IsOfInput a → ⊥) → same)
+input_is_read (Err e) same is = tt
+input_is_read (Ok a) same is = λ none. absurd (none is)
+
+-- an input that was left alone, whatever was answered
+pub left_alone : {E : Type 0} (res : Result Answer E) (same : Type 0) → same → IfOk res (λ a. (IsOfInput a → ⊥) → same)
+left_alone (Err e) same is = tt
+left_alone (Ok a) same is = λ none. is
+
+-- the statuses that an answer about the input may have
+abbrev is_late : Status → Bool
+is_late status.Done = true
+is_late status.InputRefused = true
+is_late status.SourceFault = true
+is_late status.Limit = true
+is_late s = false
+
+late_decoding : (d : Decoding) → is_late (status_of (Input d)) ≡ true
+late_decoding (Json text) = refl
+late_decoding (Stuck reason name) = refl
+
+late_encoding : (e : Encoding) → is_late (status_of_encoding e) ≡ true
+late_encoding (Bytes bytes) = refl
+late_encoding NotJson = refl
+late_encoding NotObject = refl
+late_encoding (UnknownField key) = refl
+late_encoding (BadValue key) = refl
+late_encoding (Duplicate key) = refl
+late_encoding (Unsatisfied name reason) = refl
+late_encoding (Unused name) = refl
+
+late_of : (a : Answer) → IsOfInput a → is_late (status_of a) ≡ true
+late_of Usage is = absurd is
+late_of ShelfFault is = absurd is
+late_of (NoPackage n) is = absurd is
+late_of (TextLimit n) is = absurd is
+late_of (Refused n x) is = absurd is
+late_of PackageLimit is = absurd is
+late_of (Unserved n x) is = absurd is
+late_of (Broken n x) is = absurd is
+late_of (NoMessage n x) is = absurd is
+late_of (Checked r) is = absurd is
+late_of (Rejected r) is = absurd is
+late_of SourceFault is = refl
+late_of InputLimit is = refl
+late_of (Input d) is = late_decoding d
+late_of (Output e) is = late_encoding e
+
+not_late : false ≡ true → ⊥
+not_late h = cc
+
+early : (a : Answer) (s : Status) → is_late s ≡ false → s ≡ status_of a → IsOfInput a → ⊥
+early a s soon same is = not_late (sym soon ∙ ap (λ (x : Status). is_late x) same ∙ late_of a is)
+
+pub leaves_input : (a : Answer) (s : Status) (same : Type 0) → IsShown a s → ((IsOfInput a → ⊥) → same) → LeavesInput s same
+leaves_input a status.Done same shown left = tt
+leaves_input a status.NotAccepted same shown left = left (early a status.NotAccepted refl shown)
+leaves_input a status.Words same shown left = left (early a status.Words refl shown)
+leaves_input a status.Specification same shown left = left (early a status.Specification refl shown)
+leaves_input a status.Undecided same shown left = left (early a status.Undecided refl shown)
+leaves_input a status.InputRefused same shown left = tt
+leaves_input a status.SourceFault same shown left = tt
+leaves_input a status.ShelfFault same shown left = left (early a status.ShelfFault refl shown)
+leaves_input a status.SinkFault same shown left = tt
+leaves_input a status.Limit same shown left = tt
+leaves_input a status.NoMemory same shown left = tt

@@ -170,3 +170,12 @@ abbrev pub ReadsAll : Status → Type 0 → Type 0
 ReadsAll Done at_end = at_end
 ReadsAll InputRefused at_end = at_end
 ReadsAll status at_end = Unit {0}
+
+-- the input is as it was, where the status says that the command ended before it was needed
+abbrev pub LeavesInput : Status → Type 0 → Type 0
+LeavesInput Words same = same
+LeavesInput Specification same = same
+LeavesInput NotAccepted same = same
+LeavesInput Undecided same = same
+LeavesInput ShelfStatus same = same
+LeavesInput status same = Unit {0}

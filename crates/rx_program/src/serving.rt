@@ -12,7 +12,7 @@ ghost use Rattle.rx_program.specs.Words.{message_asked};
 ghost use Rattle.rx_program.specs.Asked.{does_of, ask_of};
 ghost use Rattle.rx_program.specs.Closure.{ArePaired};
 ghost use Rattle.rx_program.specs.Stage.{of_packages, AreServed};
-ghost use Rattle.rx_program.specs.Input.{IsOfAll, IsOfWhole};
+ghost use Rattle.rx_program.specs.Input.{IsOfAll, IsOfInput, IsOfWhole};
 ghost use Rattle.rx_program.specs.Request.{Request, Means, Finds, AnswersTo, request_of, IsOfRequest};
 
 use crate::answer::Answer;
@@ -50,6 +50,7 @@ fn answer_input<I: Source>(
     ensures at_end { IfOk result (λ answer. IsOfWhole answer → IsAtEnd (I.left input.new)) }
     ensures source_fault { result ≡ Ok Answer.SourceFault → HasRisen (I.faults input.old) (I.faults input.new) }
     ensures one { IfOk result (λ answer. IsOfAll answer → ⊥) }
+    ensures unread { IfOk result (λ answer. (IsOfInput answer → ⊥) → input.new ≡ input.old) }
 {
     reports_show_soundness(spec, message);
     all_are_named(spec, message);
@@ -78,6 +79,7 @@ fn answer_message<I: Source>(
     ensures at_end { IfOk result (λ answer. IsOfWhole answer → IsAtEnd (I.left input.new)) }
     ensures source_fault { result ≡ Ok Answer.SourceFault → HasRisen (I.faults input.old) (I.faults input.new) }
     ensures one { IfOk result (λ answer. IsOfAll answer → ⊥) }
+    ensures unread { IfOk result (λ answer. (IsOfInput answer → ⊥) → input.new ≡ input.old) }
 {
     let examined = examine(alloc, spec, message, ask.splits)?;
     match examined {
@@ -105,6 +107,7 @@ fn answer_named<I: Source>(
     ensures at_end { IfOk result (λ answer. IsOfWhole answer → IsAtEnd (I.left input.new)) }
     ensures source_fault { result ≡ Ok Answer.SourceFault → HasRisen (I.faults input.old) (I.faults input.new) }
     ensures one { IfOk result (λ answer. IsOfAll answer → ⊥) }
+    ensures unread { IfOk result (λ answer. (IsOfInput answer → ⊥) → input.new ≡ input.old) }
 {
     match find_message(spec.messages.as_slice(), &ask.name, name) {
         Some(message) => answer_message(alloc, ask, packages, spec, message, input),
@@ -140,6 +143,7 @@ fn answer_spec<I: Source>(
     ensures source_fault { result ≡ Ok Answer.SourceFault → HasRisen (I.faults input.old) (I.faults input.new) }
     ensures all { IfOk result (λ answer. IsOfAll answer → message_asked (does_of ask.now.does) ≡ None) }
     ensures untouched { message_asked (does_of ask.now.does) ≡ None → input.new ≡ input.old }
+    ensures unread { IfOk result (λ answer. (IsOfInput answer → ⊥) → input.new ≡ input.old) }
 {
     match &ask.does {
         Does::Checks => {
@@ -192,6 +196,7 @@ pub fn answer_packages<I: Source>(
     ensures source_fault { result ≡ Ok Answer.SourceFault → HasRisen (I.faults input.old) (I.faults input.new) }
     ensures all { IfOk result (λ answer. IsOfAll answer → message_asked (does_of ask.now.does) ≡ None) }
     ensures untouched { message_asked (does_of ask.now.does) ≡ None → input.new ≡ input.old }
+    ensures unread { IfOk result (λ answer. (IsOfInput answer → ⊥) → input.new ≡ input.old) }
 {
     let asked = packages.asked.as_slice();
     let trees = packages.trees.as_slice();

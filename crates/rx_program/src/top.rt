@@ -6,9 +6,9 @@ ghost use Rattle.rx_io.specs.Shelf.{Texts, SameTexts};
 ghost use Rattle.rx_program.specs.Words.{message_asked, asked_for, HaveNoForm, HaveInput, HaveNoInput};
 ghost use Rattle.rx_program.specs.Asked.{does_of, ask_of};
 ghost use Rattle.rx_program.specs.Stop.{Stops};
-ghost use Rattle.rx_program.specs.Input.{IsOfAll, IsOfWhole};
+ghost use Rattle.rx_program.specs.Input.{IsOfAll, IsOfInput, IsOfWhole};
 ghost use Rattle.rx_program.specs.Answers.{Answers};
-ghost use Rattle.rx_program.specs.Outcome.{Outcome, MayRefuseWords, ReadsAll};
+ghost use Rattle.rx_program.specs.Outcome.{Outcome, MayRefuseWords, ReadsAll, LeavesInput};
 
 use crate::answer::Answer;
 use crate::closure::{Stop, close};
@@ -57,6 +57,7 @@ fn answer_ask<H: Shelf, I: Source>(
     ensures source_fault { result ≡ Ok Answer.SourceFault → HasRisen (I.faults input.old) (I.faults input.new) }
     ensures all { IfOk result (λ answer. IsOfAll answer → message_asked (does_of ask.does) ≡ None) }
     ensures untouched { message_asked (does_of ask.does) ≡ None → input.new ≡ input.old }
+    ensures unread { IfOk result (λ answer. (IsOfInput answer → ⊥) → input.new ≡ input.old) }
 {
     match close(alloc, &ask.name, shelf) {
         Ok(packages) => answer_packages(alloc, &ask, &packages, input),
@@ -80,6 +81,7 @@ fn answer<H: Shelf, I: Source>(
     ensures source_fault { result ≡ Ok Answer.SourceFault → HasRisen (I.faults input.old) (I.faults input.new) }
     ensures all { IfOk result (λ answer. IsOfAll answer → HaveNoInput (map string_bytes words.now)) }
     ensures untouched { HaveNoInput (map string_bytes words.now) → input.new ≡ input.old }
+    ensures unread { IfOk result (λ answer. (IsOfInput answer → ⊥) → input.new ≡ input.old) }
 {
     match read_words(alloc, words)? {
         Some(ask) => answer_ask(alloc, ask, shelf, input),
@@ -107,10 +109,12 @@ pub fn run<H: Shelf, I: Source, O: Sink>(
     ensures shelf_fault { result ≡ Status.ShelfFault → HasRisen (H.faults shelf.old) (H.faults shelf.new) }
     ensures source_fault { result ≡ Status.SourceFault → HasRisen (I.faults input.old) (I.faults input.new) }
     ensures sink_fault { result ≡ Status.SinkFault → HasRisen (O.faults out.old) (O.faults out.new) }
-    // the texts stay; an input that was decoded, encoded or refused was read to its end; `check` leaves it alone
+    // the texts stay; an input that was decoded, encoded or refused was read to its end; `check` leaves it alone, and so
+    // does what is told before the input is needed
     ensures same { SameTexts (H.texts shelf.old) (H.texts shelf.new) }
     ensures at_end { HaveInput (map string_bytes words.now) → ReadsAll result (IsAtEnd (I.left input.new)) }
     ensures untouched { HaveNoInput (map string_bytes words.now) → input.new ≡ input.old }
+    ensures unread { LeavesInput result (input.new ≡ input.old) }
 {
     match answer(alloc, words, shelf, input) {
         Ok(answer) => print(alloc, answer, out),

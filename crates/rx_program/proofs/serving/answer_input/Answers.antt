@@ -2,7 +2,7 @@ use Rattle.std.proofs.Common.{ap}
 use Rattle.rx_graph.specs.Graph.{graph_of}
 use Rattle.rx_program.specs.Asked.{does_of}
 use Rattle.rx_program.proofs.AnswerLemmas.{answers_read, answers_written}
-use Rattle.rx_program.proofs.ReadLemmas.{input_not_all}
+use Rattle.rx_program.proofs.ReadLemmas.{input_is_read, input_not_all}
 use Rattle.rx_program.proofs.serving.answer_input.Goals as goal
 
 pub read_input-requires : goal.read_input-requires
@@ -30,3 +30,9 @@ returns-in-Encodes-clause-answers g c =
 
 pub returns-in-Encodes-clause-one : goal.returns-in-Encodes-clause-one
 returns-in-Encodes-clause-one g c = input_not_all c.write_input.result c.write_input.ensures.never
+
+pub returns-in-Decodes-clause-unread : goal.returns-in-Decodes-clause-unread
+returns-in-Decodes-clause-unread g c = input_is_read c.read_input.result _ c.read_input.ensures.never
+
+pub returns-in-Encodes-clause-unread : goal.returns-in-Encodes-clause-unread
+returns-in-Encodes-clause-unread g c = input_is_read c.write_input.result _ c.write_input.ensures.never

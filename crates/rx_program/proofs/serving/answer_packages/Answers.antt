@@ -1,4 +1,4 @@
-use Rattle.std.proofs.Common.{◌≡◌, List, length, map, Some, Err, sym, ap, subst, ◌∙◌, arith}
+use Rattle.std.proofs.Common.{◌≡◌, List, length, map, Some, Err, refl, sym, ap, subst, ◌∙◌, arith}
 use Rattle.std.specs.Prelude.{slice_get}
 use Rattle.std.specs.List.{AllByRecursion}
 use Rattle.rx_types.specs.Domain.{Domain, boolean}
@@ -7,6 +7,7 @@ use Rattle.rx_forms.specs.PathLimit.{MayBeChecked}
 use Rattle.rx_spec.specs.Elaboration.{elaborated}
 use Rattle.rx_program.specs.Stage.{of_packages}
 use Rattle.rx_program.proofs.OperandLemmas.{domains_same, first_same}
+use Rattle.rx_program.proofs.ReadLemmas.{left_alone}
 use Rattle.rx_program.proofs.RequestLemmas.{told_within}
 use Rattle.rx_program.proofs.StageLemmas.{found_within}
 use Rattle.rx_program.proofs.serving.answer_packages.Goals as goal
@@ -40,3 +41,9 @@ answer_spec-requires-clause-messages g c =
 pub answer_spec-requires-clause-boolean : goal.answer_spec-requires-clause-boolean
 answer_spec-requires-clause-boolean g c =
     first_same (domains_of c.in-Ok.spec) (subst (λ (ds : List Domain). slice_get ds 0 ≡ Some boolean) (domains_same c.in-Ok.spec) c.in-Ok.ensures.sound.boolean)
+
+pub returns-in-Some-clause-unread : goal.returns-in-Some-clause-unread
+returns-in-Some-clause-unread g c = left_alone c.unserved.result _ refl
+
+pub returns-in-Err-Refused-clause-unread : goal.returns-in-Err-Refused-clause-unread
+returns-in-Err-Refused-clause-unread g c = left_alone c.broken.result _ refl
