@@ -25,6 +25,8 @@ mod reading;
 #[cfg(test)]
 mod shown;
 #[cfg(test)]
+mod sums;
+#[cfg(test)]
 mod worked;
 #[cfg(test)]
 mod writing;

@@ -9,7 +9,7 @@ ghost use Rattle.rx_draft.specs.Drafts.{StandsForSound, IsSoundPlan};
 use rx_checks::{accepted, check, reports_show_soundness};
 use rx_context::{Plan, sound_messages_may_be_planned};
 use rx_grammar::parse_package;
-use rx_graph::{Message, Spec};
+use rx_graph::{Message, Path, Spec, paths};
 use rx_judge::spelled;
 use rx_spec::elaborate;
 use rx_syntax::{PackageTree, lex};
@@ -59,6 +59,13 @@ pub fn message_of(spec: &Spec) -> Result<&Message, Fail>
         Some(message) => Ok(message),
         None => Err(Fail::new("there is no message")),
     }
+}
+
+/// The whole paths of a message.
+pub fn paths_of(alloc: Global, spec: &Spec, message: &Message) -> Result<Vec<Path>, Fail>
+    requires message { MayBeChecked (domains_of spec.now) (graph_of message.now) }
+{
+    Ok(paths(alloc, message)?)
 }
 
 /// The plan of a message whose checks pass.

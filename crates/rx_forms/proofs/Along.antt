@@ -1,13 +1,12 @@
 -- The rows along a path hold exactly where the path is partial.
-use Rattle.std.proofs.Common.{◌≡◌, refl, sym, ap, subst, ◌∙◌, ℕ, ◌+◌, ◌*◌, ◌<◌, ◌^◌, arith, List, [], ◌∷◌, ◌++◌, Bool, true, false, if◌then◌else◌, ◌==◌, get_or, int_le, ℤ, pos, ◌+ℤ◌, ◌-ℤ◌, ◌≤ℤ◌, Option, Some, None, inl, inr, append_assoc, append-nil, ◌↔◌}
+use Rattle.std.proofs.Common.{◌≡◌, refl, sym, ap, subst, ◌∙◌, ℕ, ◌+◌, ◌*◌, ◌<◌, ◌^◌, arith, List, [], ◌∷◌, ◌++◌, Bool, true, false, if◌then◌else◌, ◌==◌, get_or, int_le, ℤ, pos, ◌+ℤ◌, ◌≤ℤ◌, Option, Some, None, inl, inr, append_assoc, append-nil, ◌↔◌}
 use Rattle.std.specs.Prelude.{slice_get}
 use Rattle.std.specs.List.{AllByRecursion}
 use Rattle.std.proofs.lemmas.Int.{ints}
 use Rattle.std.proofs.lemmas.Bool.Decides.{Decides-eqb, Decides-int_eq}
 use Rattle.rx_forms.proofs.Tests.{both, and_true}
-use Rattle.rx_types.specs.Tree.{Tree}
 use Rattle.rx_types.specs.Domain.{Domain, size_of, IsNumberOf}
-use Rattle.rx_types.specs.Environment.{Environment, Placed, place_of, end_of, bits_of, in_message, IsAmong}
+use Rattle.rx_types.specs.Environment.{Environment, Placed, place_of, end_of, in_message, IsAmong}
 use Rattle.rx_types.specs.Narrow.{StaysWithin}
 use Rattle.rx_graph.specs.declared.message.Node.{Node}
 use Rattle.rx_graph.specs.declared.message.Node.TheVariants.{Start, At}
@@ -21,7 +20,7 @@ use Rattle.rx_forms.specs.declared.linear.Form.{Form, All}
 use Rattle.rx_forms.specs.Linear.{at, term, minus, equal, meets, not_below_zero}
 use Rattle.rx_forms.specs.Normal.{Formed, formed_of, bits}
 use Rattle.rx_forms.specs.Divisions.{divisions}
-use Rattle.rx_forms.specs.Points.{HasPlace, Represents, SolvesAny, Matches}
+use Rattle.rx_forms.specs.Points.{HasPlace, Matches}
 use Rattle.rx_forms.specs.Steps
 use Rattle.rx_forms.specs.Carried.{CarriesLink, Carries}
 use Rattle.rx_forms.specs.Steps.{Step, IsFormable, AreFormable, IsNumericIfAny, IsNarrowLink, IsNarrowIfAny, AreNarrow, target_field, link_then, end_form, form_or, divisions_any, divisions_in_any, size_aspect, first_division, size_division, first_form, size_form, number_form, scalars_in, formed_by, condition_form, division_forms, place_forms, same_form, type_form_any, is_among}
@@ -29,7 +28,7 @@ use Rattle.rx_forms.proofs.Sums.{at_minus, at_variable, at_constant}
 use Rattle.rx_forms.proofs.Quotients.{from_le, to_le, parts_of, of_parts}
 use Rattle.rx_forms.proofs.Conditions.{condition_meets, meets_none, meets_equal}
 use Rattle.rx_forms.proofs.Rows.{solves_condition, rows_of_condition}
-use Rattle.rx_forms.proofs.Matching.{represents, end_is, end_matches, matches_on, among_forms, among_back, bits_value, value_if_any, solves_any, rows_of_any}
+use Rattle.rx_forms.proofs.Matching.{represents, end_is, end_matches, matches_on, among_forms, among_back, bits_value, value_if_any, solves_any, rows_of_any, numeric_aspect, narrow_aspect, size_value, number_value}
 
 -- ---- the sizes of scalars
 
@@ -70,12 +69,6 @@ module _ (domains : List Domain) (m : Graph) where
 module _ (domains : List Domain) (m : Graph) (el : IsElaborated domains m) (formable : AreFormable (limit_of domains m) m) (narrow : AreNarrow (limit_of domains m) m) (type_form : Domain → ℕ → Form) (point : List ℤ)
     (typed : (t : Domain) (v : ℕ) → (meets (type_form t v) point ≡ true) ↔ ((n : ℕ) × (get_or point v (pos 0) ≡ pos n) × IsNumberOf t n))
     (total : ℕ) (short : total < 2 ^ 24) (length_is : get_or point 0 (pos 0) ≡ pos total) where
-  pub size_value : (type : Option Domain) (step : Step) (e : Environment) → Represents point step.before e → e.total ≡ total → IsNumericIfAny step.link.size → at (first_form step) point ≡ first_of step.link e → SolvesAny point (size_division step) (size_aspect type step.link.size) e → at (size_form type step) point ≡ size_of_target type step.link e
-  size_value (Some t) step e r same h f s = at_constant (pos (size_of t)) point
-  size_value None step e r same h f s =
-      value_if_any (limit_of domains m) point step.before e r step.link.size (size_division step) (minus bits (first_form step)) (bits_of e -ℤ first_of step.link e) h s
-      (at_minus bits (first_form step) point ∙ ap (λ (z : ℤ). z -ℤ at (first_form step) point) (bits_value point e.total r.total) ∙ ap (λ (z : ℤ). bits_of e -ℤ z) f)
-
   -- the number that the point has for the target
   has_number : (type : Option Domain) (step : Step) → meets (type_form_any type_form type step) point ≡ true → (n : ℕ) × (at (number_form type step) point ≡ pos n) × HasNumber type n
   has_number (Some t) step h = let n = (typed t step.scalar).0 h in (n.0, at_variable step.scalar point ∙ n.1, n.2)
@@ -92,10 +85,6 @@ module _ (domains : List Domain) (m : Graph) (el : IsElaborated domains m) (form
       let e1 = at_minus (minus bits first) size point in
       let e2 = at_minus bits first point in
       (omega (arith, ints), omega (arith, ints), omega (arith, ints))
-
-  pub numeric_aspect : (type : Option Domain) (x : Option Tree) → IsNumericIfAny x → IsNumericIfAny (size_aspect type x)
-  numeric_aspect (Some t) x h = tt
-  numeric_aspect None x h = h
 
   abbrev Sized : List Placed → Type 0
   Sized = AllByRecursion (IsSized domains m)
@@ -136,7 +125,7 @@ module _ (domains : List Domain) (m : Graph) (el : IsElaborated domains m) (form
       let ss = solves_any (limit_of domains m) point step.before e r (size_aspect type step.link.size) (size_division step) (numeric_aspect type step.link.size fm.size) d1.1 in
       let ct = condition_meets (limit_of domains m) point step.before e r (λ f. (w.fields f).number) step.division true step.link.condition fm.condition sc in
       let fv = value_if_any (limit_of domains m) point step.before e r step.link.first (first_division step) (end_form step.before) (end_of befores) fm.first sf (end_matches point step.before befores match) in
-      let sv = size_value type step e r refl fm.size fv ss in
+      let sv = size_value (limit_of domains m) point type step e r fm.size fv ss in
       let n = has_number type step h.typed in
       let b = within (first_form step) (size_form type step) (first_of step.link e) (size_of_target type step.link e) (pos (total * 8)) fv sv (bits_value point total length_is) h.placed in (
         record { field = step.field; first = first_of step.link e; size = size_of_target type step.link e; number = n.0 },
@@ -194,10 +183,6 @@ module _ (domains : List Domain) (m : Graph) (el : IsElaborated domains m) (form
   typed_back (Some t) step n h c = (typed t step.scalar).1 (n, c t refl, h)
   typed_back None step n h c = meets_none point
 
-  number_back : (type : Option Domain) (step : Step) (n : ℕ) → HasNumber type n → ((t : Domain) → type ≡ Some t → get_or point step.scalar (pos 0) ≡ pos n) → at (number_form type step) point ≡ pos n
-  number_back (Some t) step n h c = at_variable step.scalar point ∙ c t refl
-  number_back None step n h c = at_constant (pos 0) point ∙ ap (λ (k : ℕ). pos k) (sym h)
-
   equal_to : (f g : Linear) → at f point ≡ at g point → meets (equal f g) point ≡ true
   equal_to f g h = meets_equal point f g ∙ (Decides-int_eq (at f point) (at g point)).1 h
 
@@ -214,10 +199,6 @@ module _ (domains : List Domain) (m : Graph) (el : IsElaborated domains m) (form
   overlay_back : (o : Option ℕ) (step : Step) → ((x : ℕ) (s t : Domain) → o ≡ Some x → type_of domains m step.field ≡ Some s → type_of domains m x ≡ Some t → is_among x step.before ≡ true → size_of s ≡ size_of t → at (term (pos 1) step.scalar (pos 0)) point ≡ at (formed_of x step.before).number point) → meets (Steps.overlay_form_any domains m o step) point ≡ true
   overlay_back None step h = meets_none point
   overlay_back (Some x) step h = same_form_back (type_of domains m step.field) (type_of domains m x) (is_among x step.before) (term (pos 1) step.scalar (pos 0)) (formed_of x step.before).number (λ s t es et a same. h x s t refl es et a same)
-
-  narrow_aspect : (type : Option Domain) (x : Option Tree) → IsNarrowIfAny (limit_of domains m) x → IsNarrowIfAny (limit_of domains m) (size_aspect type x)
-  narrow_aspect (Some t) x h = tt
-  narrow_aspect None x h = h
 
   sizes_alike : (a b : ℕ) (x y : ℤ) → a ≡ b → x ≡ pos a → y ≡ pos b → y ≡ x
   sizes_alike a b x y e p q = omega (arith, ints, e, p, q)
@@ -237,15 +218,15 @@ module _ (domains : List Domain) (m : Graph) (el : IsElaborated domains m) (form
       let type = type_of domains m p.field in
       let ct = condition_meets (limit_of domains m) point before e r (λ f. (w.fields f).number) division true link.condition fm.condition c.condition in
       let fv = value_if_any (limit_of domains m) point before e r link.first (first_division step) (end_form before) (end_of befores) fm.first c.first (end_matches point before befores match) in
-      let sv = size_value type step e r refl fm.size fv c.size in
+      let sv = size_value (limit_of domains m) point type step e r fm.size fv c.size in
       let pf : at (first_form step) point ≡ p.first = fv ∙ sym (ap (λ (q : Placed). q.first) pl.place) in
       let ps : at (size_form type step) point ≡ p.size = sv ∙ sym (ap (λ (q : Placed). q.size) pl.place) in
-      let pn = number_back type step p.number pl.number c.number in (
+      let pn = number_value point type step p.number pl.number c.number in (
         record {
           divided = of_parts point (divisions (limit_of domains m) before division link.condition) _ (rows_of_condition (limit_of domains m) point before e r w division link.condition fm.condition nr.condition c.condition)
               (of_parts point (divisions_any (limit_of domains m) before (first_division step) link.first) (divisions_any (limit_of domains m) before (size_division step) (size_aspect type link.size))
               (rows_of_any (limit_of domains m) point before e r w link.first (first_division step) fm.first nr.first c.first)
-              (rows_of_any (limit_of domains m) point before e r w (size_aspect type link.size) (size_division step) (numeric_aspect type link.size fm.size) (narrow_aspect type link.size nr.size) c.size));
+              (rows_of_any (limit_of domains m) point before e r w (size_aspect type link.size) (size_division step) (numeric_aspect type link.size fm.size) (narrow_aspect (limit_of domains m) type link.size nr.size) c.size));
           taken = ct ∙ pl.taken;
           placed = within_back (first_form step) (size_form type step) p.first p.size (pos (total * 8)) pf ps (bits_value point total length_is) pl.within.begins pl.within.long pl.within.ends;
           typed = typed_back type step p.number pl.number c.number;

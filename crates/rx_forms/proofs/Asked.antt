@@ -14,7 +14,7 @@ use Rattle.rx_graph.specs.Onward.{onward}
 use Rattle.rx_graph.proofs.Listed.{listed}
 use Rattle.rx_graph.proofs.Sound.{is_itself}
 use Rattle.rx_forms.specs.Gathered.{passes_limit}
-use Rattle.rx_forms.specs.PathLimit.{IsOut, numbers_from, ones_and_pairs, outs, keeps_limit_at, fields_from, every_node, LimitIsKept}
+use Rattle.rx_forms.specs.PathLimit.{IsOut, numbers_from, ones_and_pairs, outs, keeps_limit_at, fields_from, every_node, keeps_limit, KeepsLimit}
 use Rattle.rx_forms.proofs.Few.{IsNode, ends_at_node, holds_of}
 
 -- ---- tests of lists
@@ -149,7 +149,7 @@ node_passes p m (At f) h ok =
 node_passes p m Null h ok = left_of (p Null) true (back_of_both p (fields_from 0 m.fields) (Null ∷ []) (right_of (p Start) _ h))
 
 -- what the lists tell of is so
-pub limit_kept : (domains : List Domain) (m : Graph) → IsElaborated domains m → LimitIsKept domains m
+pub limit_kept : (domains : List Domain) (m : Graph) → IsElaborated domains m → keeps_limit domains m ≡ true → KeepsLimit domains m
 limit_kept domains m made h node path out is_path is_out =
     let paths = onward m.links (length m.links) node Start in
     let at_node = node_passes (keeps_limit_at domains m) m node h (ends_at_node domains m made path Start node tt is_path) in

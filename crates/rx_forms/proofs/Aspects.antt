@@ -1,20 +1,18 @@
 -- The First and the Size of a link by what was worked out of them.
-use Rattle.std.proofs.Common.{◌≡◌, refl, sym, ap, ◌∙◌, subst, ℕ, zero, suc, ◌+◌, ◌-◌, ◌≤◌, arith, List, [], ◌∷◌, ◌++◌, length, Bool, true, false, ◌&&◌, nat_le, append-nil, IfOk, IfErr, OnOk, Result, Option, Some, None, slice_get, pos}
+use Rattle.std.proofs.Common.{◌≡◌, refl, sym, ap, ◌∙◌, subst, ℕ, zero, suc, ◌+◌, ◌-◌, ◌≤◌, arith, List, [], ◌∷◌, length, Bool, true, false, ◌&&◌, nat_le, append-nil, IfOk, OnOk, Result, Option, Some, None, slice_get, pos}
 use Rattle.rx_types.specs.Domain.{Domain, size_of}
 use Rattle.rx_types.specs.Tree.{Tree}
 use Rattle.rx_forms.specs.declared.fault.FormFault.{FormFault}
-use Rattle.rx_forms.specs.declared.fault.FormFault.TheVariants.{PathLimit}
 use Rattle.rx_forms.specs.declared.field.FieldForms.{FieldForms}
 use Rattle.rx_forms.specs.declared.linear.Linear.{Linear}
 use Rattle.rx_forms.specs.declared.work.Work.{Work}
 use Rattle.rx_forms.specs.Linear.{constant}
 use Rattle.rx_forms.specs.Normal.{Formed, linear, divisions_in}
 use Rattle.rx_forms.specs.Limits.{is_low, all_kept, met, is_within}
-use Rattle.rx_forms.specs.Steps.{form_or, end_form, divisions_in_any, size_aspect}
-use Rattle.rx_forms.specs.Code.{formed, formed_all}
-use Rattle.rx_forms.specs.Worked.{Goes, HasSum, HasAspect, aspect_within, size_otherwise}
+use Rattle.rx_forms.specs.Steps.{end_form, size_aspect}
+use Rattle.rx_forms.specs.Code.{formed_all}
+use Rattle.rx_forms.specs.Worked.{HasSum, HasAspect, aspect_within, size_otherwise}
 use Rattle.rx_forms.proofs.Kept.{off_left, off_right, on_both}
-use Rattle.rx_forms.proofs.Tests.{both}
 
 -- ---- the end of the last field
 

@@ -1,10 +1,8 @@
 -- What a link adds to what was gathered, by the parts of the link.
-use Rattle.std.proofs.Common.{◌≡◌, refl, sym, ap, ◌∙◌, subst, ℕ, ◌+◌, ◌≤◌, arith, List, [], ◌∷◌, ◌++◌, Bool, true, false, ◌&&◌, nat_le, append_assoc, Option, Some, None}
-use Rattle.std.specs.List.{list_all}
+use Rattle.std.proofs.Common.{◌≡◌, refl, sym, ap, ◌∙◌, ℕ, ◌+◌, ◌≤◌, arith, List, [], ◌∷◌, ◌++◌, Bool, true, false, ◌&&◌, nat_le, append_assoc, Option, Some, None}
 use Rattle.std.proofs.lemmas.List.Folds.{list_all-append}
 use Rattle.rx_types.specs.Domain.{Domain}
 use Rattle.rx_types.specs.Tree.{Tree}
-use Rattle.rx_graph.specs.declared.message.Node.{Node}
 use Rattle.rx_graph.specs.declared.message.Node.TheVariants.{At}
 use Rattle.rx_graph.specs.Graph.{Arrow, Graph, type_of, limit_of}
 use Rattle.rx_forms.specs.declared.field.FieldForms.{FieldForms}
@@ -15,10 +13,10 @@ use Rattle.rx_forms.specs.Linear.{plus}
 use Rattle.rx_forms.specs.Normal.{Formed, divisions_in, condition}
 use Rattle.rx_forms.specs.Divisions.{divisions}
 use Rattle.rx_forms.specs.Limits.{Met, Limited, is_kept, is_low, all_kept, met, is_within}
-use Rattle.rx_forms.specs.Steps.{Step, form_or, end_form, size_aspect, divisions_in_any, divisions_any, scalars_in, target_field, first_division, size_division, first_form, size_form, formed_by, condition_form, division_forms}
+use Rattle.rx_forms.specs.Steps.{form_or, end_form, size_aspect, divisions_in_any, divisions_any, scalars_in, target_field, first_division, size_division, first_form, size_form, formed_by, condition_form, division_forms}
 use Rattle.rx_forms.specs.Gathered.{met_any, met_at}
 use Rattle.rx_forms.specs.Code.{formed, formed_all}
-use Rattle.rx_forms.specs.Worked.{Goes, HasFact, HasAspect, aspect_within, size_otherwise, number_at}
+use Rattle.rx_forms.specs.Worked.{HasFact, HasAspect, aspect_within, size_otherwise}
 use Rattle.rx_forms.specs.Fronts
 use Rattle.rx_forms.proofs.Kept.{off_left, off_right, on_both}
 use Rattle.rx_forms.proofs.Tests.{both}

@@ -6,7 +6,7 @@ use Rattle.rx_types.specs.Environment.{Environment, Placed, in_message}
 use Rattle.rx_graph.specs.declared.message.Node.{Node}
 use Rattle.rx_graph.specs.declared.message.Node.TheVariants.{At}
 use Rattle.rx_graph.specs.Graph.{Arrow, Graph, type_of}
-use Rattle.rx_graph.specs.Paths.{Leads}
+use Rattle.rx_graph.specs.Paths.{Leads, placed_by}
 use Rattle.rx_forms.specs.Normal.{divisions_in}
 use Rattle.rx_forms.specs.Divisions.{quotients}
 use Rattle.rx_forms.specs.Points.{Solves, SolvesAny}
@@ -14,17 +14,19 @@ use Rattle.rx_forms.specs.Steps
 use Rattle.rx_forms.specs.Steps.{Step, target_field, link_then, size_aspect, scalars_in, divisions_in_any}
 use Rattle.rx_forms.specs.Carried
 use Rattle.rx_forms.specs.Carried.{quotients_any, number_if}
+use Rattle.rx_forms.specs.Gathered.{past}
+use Rattle.rx_forms.specs.Placing.{ArePlaced, quotients_at}
 use Rattle.rx_forms.proofs.Extension.{quotients_length, solved_at, at_end, left_first, right_first, two}
 
 pub any_length : (x : Option Tree) (e : Environment) → length (quotients_any x e) ≡ divisions_in_any x
 any_length None e = refl
 any_length (Some x) e = quotients_length x e
 
-if_count : (type : Option Domain) (n : ℕ) → length (number_if type n) ≡ scalars_in type
+pub if_count : (type : Option Domain) (n : ℕ) → length (number_if type n) ≡ scalars_in type
 if_count (Some t) n = refl
 if_count None n = refl
 
-number_at : (type : Option Domain) (t : Domain) (p front more rest : List ℤ) (n s : ℕ) → type ≡ Some t → p ≡ front ++ ((number_if type n ++ more) ++ rest) → length front ≡ s → get_or p s (pos 0) ≡ pos n
+pub number_at : (type : Option Domain) (t : Domain) (p front more rest : List ℤ) (n s : ℕ) → type ≡ Some t → p ≡ front ++ ((number_if type n ++ more) ++ rest) → length front ≡ s → get_or p s (pos 0) ≡ pos n
 number_at (Some u) t p front more rest n s e h l = ap (λ (zs : List ℤ). get_or zs s (pos 0)) h ∙ at_end front (more ++ rest) (pos n) s l
 number_at None t p front more rest n s e h l = absurd (cc)
 
@@ -68,35 +70,35 @@ module _ (domains : List Domain) (m : Graph) (point : List ℤ) (total : ℕ) wh
             (((b ++ qc) ++ qf) ++ qs) s p3 l3,
       )
 
-module _ (domains : List Domain) (m : Graph) where
-  pub links_length : (total : ℕ) (before : List Placed) (at : Node) (path : List ℕ) (fields : List Placed) (end : Node) → Leads domains m total before at path fields end → length (Steps.links_on domains m path) ≡ length fields
-  links_length total before at [] [] end h = refl
-  links_length total before at [] (p ∷ fields) end h = absurd h
-  links_length total before at (i ∷ path) [] end h = absurd h
-  links_length total before at (i ∷ path) (p ∷ fields) end h =
-      ap (λ o. length (link_then o (Steps.links_on domains m path))) h.1 ∙ (let r = links_length total (before ++ p ∷ []) (At p.field) path fields end h.4 in omega arith)
+module _ (domains : List Domain) (m : Graph) (total : ℕ) where
+  -- the fields of a partial path are where its links place them
+  pub leads_placed : (before : List Placed) (at : Node) (path : List ℕ) (fields : List Placed) (end : Node) → Leads domains m total before at path fields end → ArePlaced domains m total before (Steps.links_on domains m path) fields
+  leads_placed before at [] [] end h = tt
+  leads_placed before at [] (p ∷ fields) end h = absurd h
+  leads_placed before at (i ∷ path) [] end h = absurd h
+  leads_placed before at (i ∷ path) (p ∷ fields) end h =
+      let link = h.0 in
+      let is_f : p.field ≡ target_field link.target = sym (ap (λ (n : Node). target_field n) h.3.target) in
+      subst (λ o. ArePlaced domains m total before (link_then o (Steps.links_on domains m path)) (p ∷ fields)) (sym h.1) (
+        subst (λ f. p ≡ placed_by domains m link (in_message total before) f p.number) is_f h.3.place,
+        h.3.number,
+        leads_placed (before ++ p ∷ []) (At p.field) path fields end h.4,
+      )
 
-  pub numbers_length : (total : ℕ) (before : List Placed) (at : Node) (path : List ℕ) (fields : List Placed) (end : Node) → Leads domains m total before at path fields end → length (Carried.numbers_of domains m fields) ≡ Steps.scalars_on domains m (Steps.links_on domains m path)
-  numbers_length total before at [] [] end h = refl
-  numbers_length total before at [] (p ∷ fields) end h = absurd h
-  numbers_length total before at (i ∷ path) [] end h = absurd h
-  numbers_length total before at (i ∷ path) (p ∷ fields) end h =
-      let links = Steps.links_on domains m path in
-      two (number_if (type_of domains m p.field) p.number) (Carried.numbers_of domains m fields) (scalars_in (type_of domains m p.field)) (Steps.scalars_on domains m links) (if_count (type_of domains m p.field) p.number) (numbers_length total (before ++ p ∷ []) (At p.field) path fields end h.4)
-      ∙ ap (λ f. scalars_in (type_of domains m f) + Steps.scalars_on domains m links) (sym (ap (λ (n : Node). target_field n) h.3.target))
-      ∙ ap (λ o. Steps.scalars_on domains m (link_then o links)) (sym h.1)
+  -- each link places a field
+  pub placed_length : (before : List Placed) (links : List Arrow) (fields : List Placed) → ArePlaced domains m total before links fields → length links ≡ length fields
+  placed_length before [] [] h = refl
+  placed_length before [] (p ∷ fields) h = absurd h
+  placed_length before (link ∷ links) [] h = absurd h
+  placed_length before (link ∷ links) (p ∷ fields) h = let r = placed_length (before ++ p ∷ []) links fields h.2 in omega arith
 
-  -- the point of a partial path carries it
-  pub point_carries : (total : ℕ) (at : Node) (path : List ℕ) (fields : List Placed) (end : Node) → Leads domains m total [] at path fields end
-      → Carried.Carries domains m (Carried.point_of domains m total (Steps.links_on domains m path) fields) total [] 1 (1 + Steps.scalars_on domains m (Steps.links_on domains m path)) (Steps.links_on domains m path) fields
-  point_carries total at path fields end h =
-      let links = Steps.links_on domains m path in
-      let numbers = Carried.numbers_of domains m fields in
-      let qs = Carried.quotients_along domains m total [] links fields in
-      carried domains m (pos total ∷ (numbers ++ qs)) total [] 1 (1 + Steps.scalars_on domains m links) links fields (links_length total [] at path fields end h)
-      (pos total ∷ []) qs refl refl
-      (pos total ∷ numbers) [] (ap (λ (zs : List ℤ). pos total ∷ (numbers ++ zs)) (sym (append-nil qs)))
-      (two (pos total ∷ []) numbers 1 (Steps.scalars_on domains m links) refl (numbers_length total [] at path fields end h))
+  pub placed_numbers : (before : List Placed) (links : List Arrow) (fields : List Placed) → ArePlaced domains m total before links fields → length (Carried.numbers_of domains m fields) ≡ Steps.scalars_on domains m links
+  placed_numbers before [] [] h = refl
+  placed_numbers before [] (p ∷ fields) h = absurd h
+  placed_numbers before (link ∷ links) [] h = absurd h
+  placed_numbers before (link ∷ links) (p ∷ fields) h =
+      two (number_if (type_of domains m p.field) p.number) (Carried.numbers_of domains m fields) (scalars_in (type_of domains m p.field)) (Steps.scalars_on domains m links) (if_count (type_of domains m p.field) p.number) (placed_numbers (before ++ p ∷ []) links fields h.2)
+      ∙ ap (λ f. scalars_in (type_of domains m f) + Steps.scalars_on domains m links) (ap (λ (q : Placed). q.field) h.0)
 
   three : (xs ys zs ws : List ℤ) (a b c d k : ℕ) → length xs ≡ a → length ys ≡ b → length zs ≡ c → length ws + (d + a + b + c) ≡ k → length (xs ++ (ys ++ (zs ++ ws))) + d ≡ k
   three xs ys zs ws a b c d k p q r h =
@@ -105,23 +107,74 @@ module _ (domains : List Domain) (m : Graph) where
       let l3 = two xs (ys ++ (zs ++ ws)) a (b + (c + length ws)) p l2 in
       omega arith
 
-  -- there is one quotient for each division of the path
-  pub along_length : (total : ℕ) (before : List Placed) (at : Node) (path : List ℕ) (fields : List Placed) (end : Node) (d : ℕ) → Leads domains m total before at path fields end
-      → length (Carried.quotients_along domains m total before (Steps.links_on domains m path) fields) + d ≡ Steps.division_after domains m d (Steps.links_on domains m path)
-  along_length total before at [] [] end d h = omega arith
-  along_length total before at [] (p ∷ fields) end d h = absurd h
-  along_length total before at (i ∷ path) [] end d h = absurd h
-  along_length total before at (i ∷ path) (p ∷ fields) end d h =
-      let link = h.0 in
-      let links = Steps.links_on domains m path in
+  -- there is one quotient for each division
+  pub placed_quotients : (before : List Placed) (links : List Arrow) (fields : List Placed) (d : ℕ) → ArePlaced domains m total before links fields
+      → length (Carried.quotients_along domains m total before links fields) + d ≡ Steps.division_after domains m d links
+  placed_quotients before [] [] d h = omega arith
+  placed_quotients before [] (p ∷ fields) d h = absurd h
+  placed_quotients before (link ∷ links) [] d h = absurd h
+  placed_quotients before (link ∷ links) (p ∷ fields) d h =
       let e = in_message total before in
       let next : ℕ → ℕ = λ f. Steps.next_division domains m (record { before = []; scalar = 0; division = d; link = link; field = f }) in
-      let is_f : p.field ≡ target_field link.target = sym (ap (λ (n : Node). target_field n) h.3.target) in
-      let r = along_length total (before ++ p ∷ []) (At p.field) path fields end (next p.field) h.4 in
       let aspect = size_aspect (type_of domains m p.field) link.size in
-      ap (λ o. length (Carried.quotients_along domains m total before (link_then o links) (p ∷ fields)) + d) h.1
-      ∙ three (quotients link.condition e) (quotients_any link.first e) (quotients_any aspect e) (Carried.quotients_along domains m total (before ++ p ∷ []) links fields)
+      three (quotients link.condition e) (quotients_any link.first e) (quotients_any aspect e) (Carried.quotients_along domains m total (before ++ p ∷ []) links fields)
       (divisions_in link.condition) (divisions_in_any link.first) (divisions_in_any aspect) d (Steps.division_after domains m (next p.field) links)
-      (quotients_length link.condition e) (any_length link.first e) (any_length aspect e) r
-      ∙ ap (λ f. Steps.division_after domains m (next f) links) is_f
-      ∙ ap (λ o. Steps.division_after domains m d (link_then o links)) (sym h.1)
+      (quotients_length link.condition e) (any_length link.first e) (any_length aspect e) (placed_quotients (before ++ p ∷ []) links fields (next p.field) h.2)
+      ∙ ap (λ f. Steps.division_after domains m (next f) links) (ap (λ (q : Placed). q.field) h.0)
+
+  -- the length, the numbers and the quotients of placed fields carry them, whatever stands behind
+  pub placed_carries : (links : List Arrow) (fields : List Placed) (more : List ℤ) → ArePlaced domains m total [] links fields
+      → Carried.Carries domains m (pos total ∷ (Carried.numbers_of domains m fields ++ (Carried.quotients_along domains m total [] links fields ++ more))) total [] 1 (1 + Steps.scalars_on domains m links) links fields
+  placed_carries links fields more h =
+      let numbers = Carried.numbers_of domains m fields in
+      let along = Carried.quotients_along domains m total [] links fields in
+      carried domains m (pos total ∷ (numbers ++ (along ++ more))) total [] 1 (1 + Steps.scalars_on domains m links) links fields (placed_length [] links fields h)
+      (pos total ∷ []) (along ++ more) refl refl
+      (pos total ∷ numbers) more refl
+      (two (pos total ∷ []) numbers 1 (Steps.scalars_on domains m links) refl (placed_numbers [] links fields h))
+
+module _ (domains : List Domain) (m : Graph) where
+  pub links_length : (total : ℕ) (before : List Placed) (at : Node) (path : List ℕ) (fields : List Placed) (end : Node) → Leads domains m total before at path fields end → length (Steps.links_on domains m path) ≡ length fields
+  links_length total before at path fields end h = placed_length domains m total before (Steps.links_on domains m path) fields (leads_placed domains m total before at path fields end h)
+
+  pub numbers_length : (total : ℕ) (before : List Placed) (at : Node) (path : List ℕ) (fields : List Placed) (end : Node) → Leads domains m total before at path fields end → length (Carried.numbers_of domains m fields) ≡ Steps.scalars_on domains m (Steps.links_on domains m path)
+  numbers_length total before at path fields end h = placed_numbers domains m total before (Steps.links_on domains m path) fields (leads_placed domains m total before at path fields end h)
+
+  pub along_length : (total : ℕ) (before : List Placed) (at : Node) (path : List ℕ) (fields : List Placed) (end : Node) (d : ℕ) → Leads domains m total before at path fields end
+      → length (Carried.quotients_along domains m total before (Steps.links_on domains m path) fields) + d ≡ Steps.division_after domains m d (Steps.links_on domains m path)
+  along_length total before at path fields end d h = placed_quotients domains m total before (Steps.links_on domains m path) fields d (leads_placed domains m total before at path fields end h)
+
+  -- the point of a partial path carries it
+  pub point_carries : (total : ℕ) (at : Node) (path : List ℕ) (fields : List Placed) (end : Node) → Leads domains m total [] at path fields end
+      → Carried.Carries domains m (Carried.point_of domains m total (Steps.links_on domains m path) fields) total [] 1 (1 + Steps.scalars_on domains m (Steps.links_on domains m path)) (Steps.links_on domains m path) fields
+  point_carries total at path fields end h =
+      let links = Steps.links_on domains m path in
+      let numbers = Carried.numbers_of domains m fields in
+      subst (λ qs. Carried.Carries domains m (pos total ∷ (numbers ++ qs)) total [] 1 (1 + Steps.scalars_on domains m links) links fields) (append-nil (Carried.quotients_along domains m total [] links fields))
+      (placed_carries domains m total links fields [] (leads_placed domains m total [] at path fields end h))
+
+-- ---- links at the end
+
+-- from variable n on, the point has the quotients of the conditions of these links
+abbrev pub SolvesEach : List ℤ → ℕ → List Arrow → Environment → Type 0
+SolvesEach point n [] e = Unit {0}
+SolvesEach point n (link ∷ links) e = Solves point n link.condition e × SolvesEach point (n + divisions_in link.condition) links e
+
+pub each_solved : (links : List Arrow) (e : Environment) (p front rest : List ℤ) (n : ℕ) → p ≡ front ++ (quotients_at e links ++ rest) → length front ≡ n → SolvesEach p n links e
+each_solved [] e p front rest n h l = tt
+each_solved (link ∷ links) e p front rest n h l =
+    let q = quotients link.condition e in
+    let qs = quotients_at e links in (
+      solved_in link.condition e p front (qs ++ rest) n (h ∙ sym (left_first front q qs rest)) l,
+      each_solved links e p (front ++ q) rest (n + divisions_in link.condition) (h ∙ sym (right_first front q qs rest)) (two front q n (divisions_in link.condition) l (quotients_length link.condition e)),
+    )
+
+pub each_length : (links : List Arrow) (e : Environment) (n : ℕ) → length (quotients_at e links) + n ≡ past n links
+each_length [] e n = omega arith
+each_length (link ∷ links) e n =
+    let l = two (quotients link.condition e) (quotients_at e links) (divisions_in link.condition) (length (quotients_at e links)) (quotients_length link.condition e) refl in
+    let r = each_length links e (n + divisions_in link.condition) in
+    plus_three (length (quotients link.condition e ++ quotients_at e links)) (divisions_in link.condition) (length (quotients_at e links)) n (past (n + divisions_in link.condition) links) l r
+  where
+    plus_three : (x d y n k : ℕ) → x ≡ d + y → y + (n + d) ≡ k → x + n ≡ k
+    plus_three x d y n k p q = omega (arith, p, q)

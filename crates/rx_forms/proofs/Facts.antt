@@ -1,5 +1,5 @@
 -- The facts of conditions by what their operands have, and where they pass the path limit.
-use Rattle.std.proofs.Common.{◌≡◌, refl, sym, ap, ◌∙◌, subst, ℕ, ◌+◌, ◌≤◌, arith, List, [], ◌++◌, Bool, true, false, not, ◌&&◌, nat_le, append_assoc, append-nil, IfOk, OnOk, Result, Option, Some, None, ◌⊎◌, inl, inr, Box, Global}
+use Rattle.std.proofs.Common.{◌≡◌, refl, sym, ap, ◌∙◌, subst, ℕ, ◌+◌, ◌≤◌, arith, List, ◌++◌, Bool, true, false, not, ◌&&◌, nat_le, append-nil, IfOk, OnOk, Result, Option, Some, None, ◌⊎◌, inl, inr, Box, Global}
 use Rattle.rx_types.specs.declared.expr.Expr.{Expr}
 use Rattle.rx_types.specs.declared.expr.Expr.TheVariants as code
 use Rattle.rx_types.specs.declared.expr.Operator.{Operator}
@@ -10,8 +10,7 @@ use Rattle.rx_forms.specs.declared.linear.Linear.{Linear}
 use Rattle.rx_forms.specs.declared.linear.Form.{Form}
 use Rattle.rx_forms.specs.declared.work.Work.{Work}
 use Rattle.rx_forms.specs.Linear.{minus}
-use Rattle.rx_forms.specs.Normal.{Formed, linear, condition, comparison, joined, divisions_in, truth_in, agree, IsNumeric, IsCompared, IsCondition}
-use Rattle.rx_forms.specs.Divisions.{divisions}
+use Rattle.rx_forms.specs.Normal.{Formed, linear, condition, comparison, joined, divisions_in, truth_in, IsNumeric, IsCompared, IsCondition}
 use Rattle.rx_forms.specs.Limits.{all_kept, differences, is_within, sides_within}
 use Rattle.rx_forms.specs.Worked.{IsTruth, Goes, HasSum, HasComparison, HasFact, by_differences, spelled_in, agreed, takes_all}
 use Rattle.rx_forms.proofs.Kept

@@ -15,7 +15,12 @@ pub mod Kept
 pub mod Looping
 pub mod Lows
 pub mod Matching
+pub mod Numbered
 pub mod Numbers
+pub mod OnPath
+pub mod OnePoint
+pub mod Partials
+pub mod Placing
 pub mod Quotients
 pub mod Reaching
 pub mod Rows
@@ -23,6 +28,7 @@ pub mod Spelled
 pub mod Sums
 pub mod Telling
 pub mod Tests
+pub mod Told
 pub mod Typed
 pub mod Values
 pub mod Whole

@@ -1,22 +1,19 @@
 -- Links gathered one index after the other, and what is told of a whole path in the end.
-use Rattle.std.proofs.Common.{◌≡◌, refl, sym, ap, ◌∙◌, subst, ℕ, zero, suc, ◌+◌, ◌<◌, ◌≤◌, arith, List, [], ◌∷◌, ◌++◌, length, get_or, drop, map, Bool, true, false, not, ◌&&◌, ◌||◌, if◌then◌else◌, nat_le, append_assoc, append-nil, Option, Some, None, slice_get}
-use Rattle.std.specs.List.{filter, flat_map}
-use Rattle.std.proofs.lemmas.List.{drop_more, drop_all}
-use Rattle.std.proofs.lemmas.List.Folds.{list_all-append}
+use Rattle.std.proofs.Common.{◌≡◌, refl, sym, ap, ◌∙◌, ℕ, zero, suc, ◌+◌, ◌<◌, ◌≤◌, arith, List, [], ◌∷◌, ◌++◌, length, get_or, drop, Bool, true, false, not, ◌&&◌, ◌||◌, if◌then◌else◌, nat_le, Option, Some, None, slice_get}
+use Rattle.std.specs.List.{filter}
+use Rattle.std.proofs.lemmas.List.{drop_more}
 use Rattle.rx_types.specs.Domain.{Domain}
 use Rattle.rx_graph.specs.declared.message.Link.{Link}
 use Rattle.rx_graph.specs.declared.message.Node.{Node}
 use Rattle.rx_graph.specs.declared.message.Node.TheVariants.{Start, At, Null}
-use Rattle.rx_graph.specs.Graph.{Arrow, Graph, type_of, limit_of, arrow_of, arrows}
-use Rattle.rx_graph.specs.Cycles.{IsLink}
+use Rattle.rx_graph.specs.Graph.{Arrow, Graph, type_of, arrow_of, arrows}
 use Rattle.rx_forms.specs.Normal.{divisions_in}
-use Rattle.rx_forms.specs.Limits.{is_kept, is_within, all_kept}
-use Rattle.rx_forms.specs.Steps.{leads_to_field, link_then, links_on, scalars_on, scalars_in, target_field, next_division, division_after, steps_from}
+use Rattle.rx_forms.specs.Limits.{is_within, all_kept}
+use Rattle.rx_forms.specs.Steps.{leads_to_field, link_then, links_on, scalars_on, scalars_in, target_field, next_division}
 use Rattle.rx_forms.specs.Gathered
 use Rattle.rx_forms.specs.Fronts
-use Rattle.rx_forms.proofs.Kept.{off_left, off_right, on_both}
+use Rattle.rx_forms.proofs.Kept.{off_left}
 use Rattle.rx_forms.proofs.Tests.{both}
-use Rattle.rx_forms.proofs.Gathering
 
 -- ---- lists of links
 

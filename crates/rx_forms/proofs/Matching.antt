@@ -1,17 +1,18 @@
 -- Sums that have the numbers of a path's fields.
-use Rattle.std.proofs.Common.{◌≡◌, refl, sym, ap, ◌∙◌, ℕ, ◌*◌, arith, List, [], ◌∷◌, ◌++◌, Bool, true, false, ◌||◌, if◌then◌else◌, ◌==◌, get_or, ℤ, pos, ◌+ℤ◌, Option, Some, None, ◌⊎◌, inl, inr}
+use Rattle.std.proofs.Common.{◌≡◌, refl, sym, ap, ◌∙◌, ℕ, ◌*◌, arith, List, [], ◌∷◌, ◌++◌, Bool, true, false, ◌||◌, if◌then◌else◌, ◌==◌, get_or, ℤ, pos, ◌+ℤ◌, ◌-ℤ◌, Option, Some, None, ◌⊎◌, inl, inr}
 use Rattle.std.proofs.lemmas.Int.{ints}
 use Rattle.std.proofs.lemmas.Bool.Decides.{Decides-eqb}
 use Rattle.rx_types.specs.Tree.{Tree}
-use Rattle.rx_types.specs.Environment.{Environment, Placed, place_of, end_of, in_message, IsAmong}
+use Rattle.rx_types.specs.Domain.{Domain, size_of}
+use Rattle.rx_types.specs.Environment.{Environment, Placed, place_of, end_of, bits_of, in_message, IsAmong}
 use Rattle.rx_types.specs.Narrow.{StaysWithin}
-use Rattle.rx_graph.specs.Paths.{value_or}
+use Rattle.rx_graph.specs.Paths.{value_or, first_of, size_of_target, HasNumber}
 use Rattle.rx_forms.specs.declared.linear.Linear.{Linear}
-use Rattle.rx_forms.specs.Linear.{at, plus, not_below_zero}
+use Rattle.rx_forms.specs.Linear.{at, plus, minus, not_below_zero}
 use Rattle.rx_forms.specs.Normal.{Formed, formed_of, bits}
 use Rattle.rx_forms.specs.Points.{HasPlace, Represents, SolvesAny, Matches}
-use Rattle.rx_forms.specs.Steps.{IsNumericIfAny, IsNarrowIfAny, end_form, form_or, divisions_any, is_among}
-use Rattle.rx_forms.proofs.Sums.{at_plus, at_term, at_constant}
+use Rattle.rx_forms.specs.Steps.{Step, IsNumericIfAny, IsNarrowIfAny, end_form, form_or, size_aspect, size_division, first_form, size_form, number_form, divisions_any, is_among}
+use Rattle.rx_forms.proofs.Sums.{at_plus, at_minus, at_term, at_variable, at_constant}
 use Rattle.rx_forms.proofs.Values.{linear_value}
 use Rattle.rx_forms.proofs.Quotients.{solves_number, rows_of_number}
 
@@ -92,3 +93,25 @@ module _ (limit : ℕ → ℕ) (point : List ℤ) (fields : List Formed) (e : En
   pub rows_of_any : StaysWithin limit e → (x : Option Tree) (n : ℕ) → IsNumericIfAny x → IsNarrowIfAny limit x → SolvesAny point n x e → not_below_zero point (divisions_any limit fields n x) ≡ true
   rows_of_any w None n h c s = refl
   rows_of_any w (Some x) n h c s = rows_of_number limit point fields e r w n x h c s
+
+-- ---- the Size that counts
+
+pub numeric_aspect : (type : Option Domain) (x : Option Tree) → IsNumericIfAny x → IsNumericIfAny (size_aspect type x)
+numeric_aspect (Some t) x h = tt
+numeric_aspect None x h = h
+
+pub narrow_aspect : (limit : ℕ → ℕ) (type : Option Domain) (x : Option Tree) → IsNarrowIfAny limit x → IsNarrowIfAny limit (size_aspect type x)
+narrow_aspect limit (Some t) x h = tt
+narrow_aspect limit None x h = h
+
+-- the sum of a Size has its value, where that of the First has its own
+pub size_value : (limit : ℕ → ℕ) (point : List ℤ) (type : Option Domain) (step : Step) (e : Environment) → Represents point step.before e → IsNumericIfAny step.link.size → at (first_form step) point ≡ first_of step.link e → SolvesAny point (size_division step) (size_aspect type step.link.size) e → at (size_form type step) point ≡ size_of_target type step.link e
+size_value limit point (Some t) step e r h f s = at_constant (pos (size_of t)) point
+size_value limit point None step e r h f s =
+    value_if_any limit point step.before e r step.link.size (size_division step) (minus bits (first_form step)) (bits_of e -ℤ first_of step.link e) h s
+    (at_minus bits (first_form step) point ∙ ap (λ (z : ℤ). z -ℤ at (first_form step) point) (bits_value point e.total r.total) ∙ ap (λ (z : ℤ). bits_of e -ℤ z) f)
+
+-- the sum of a number has it, where the point has that of a scalar
+pub number_value : (point : List ℤ) (type : Option Domain) (step : Step) (n : ℕ) → HasNumber type n → ((t : Domain) → type ≡ Some t → get_or point step.scalar (pos 0) ≡ pos n) → at (number_form type step) point ≡ pos n
+number_value point (Some t) step n h c = at_variable step.scalar point ∙ c t refl
+number_value point None step n h c = at_constant (pos 0) point ∙ ap (λ (k : ℕ). pos k) (sym h)

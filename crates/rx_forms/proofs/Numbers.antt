@@ -11,10 +11,10 @@ use Rattle.rx_types.specs.Static.{is_static, static_value}
 use Rattle.rx_forms.specs.declared.fault.FormFault.{FormFault}
 use Rattle.rx_forms.specs.declared.linear.Linear.{Linear}
 use Rattle.rx_forms.specs.declared.work.Work.{Work}
-use Rattle.rx_forms.specs.Linear.{term, plus, minus, times}
+use Rattle.rx_forms.specs.Linear.{term, minus, times}
 use Rattle.rx_forms.specs.Normal.{Formed, linear, divisions_in, IsNumeric}
 use Rattle.rx_forms.specs.Divisions.{division_rows, divisions}
-use Rattle.rx_forms.specs.Limits.{has_words, divided, all_kept, met, is_within}
+use Rattle.rx_forms.specs.Limits.{has_words, divided, all_kept, is_within}
 use Rattle.rx_forms.specs.Worked.{Goes, HasSum, sum_by, divided_by, IsLeaf}
 use Rattle.rx_forms.proofs.Kept
 use Rattle.rx_forms.proofs.Tests.{both}

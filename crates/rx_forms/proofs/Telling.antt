@@ -1,5 +1,5 @@
 -- What is gathered along a path are its forms, and it is told exactly where the path passes the path limit.
-use Rattle.std.proofs.Common.{◌≡◌, refl, sym, ap, ◌∙◌, ℕ, ◌+◌, ◌<◌, ◌≤◌, arith, List, [], ◌∷◌, ◌++◌, map, Bool, true, false, not, ◌&&◌, nat_le}
+use Rattle.std.proofs.Common.{◌≡◌, refl, sym, ap, ◌∙◌, ℕ, ◌+◌, ◌<◌, ◌≤◌, arith, List, ◌++◌, map, Bool, true, false, not, ◌&&◌, nat_le}
 use Rattle.std.specs.List.{flat_map}
 use Rattle.std.proofs.lemmas.List.Folds.{list_all-append}
 use Rattle.rx_types.specs.Domain.{Domain}
@@ -9,7 +9,7 @@ use Rattle.rx_forms.specs.declared.linear.Linear.{Linear}
 use Rattle.rx_forms.specs.declared.linear.Form.{Form}
 use Rattle.rx_forms.specs.Normal.{Formed}
 use Rattle.rx_forms.specs.Limits.{Met, is_kept, all_kept}
-use Rattle.rx_forms.specs.Steps.{Step, scalars_on, links_on, first_form, size_form, condition_form, division_forms}
+use Rattle.rx_forms.specs.Steps.{scalars_on, links_on, condition_form, division_forms}
 use Rattle.rx_forms.specs.Gathered
 use Rattle.rx_forms.specs.Fronts
 use Rattle.rx_forms.proofs.Gathering

@@ -9,6 +9,7 @@ pub mod Limits
 pub mod Linear
 pub mod Normal
 pub mod PathLimit
+pub mod Placing
 pub mod Points
 pub mod Steps
 pub mod Worked

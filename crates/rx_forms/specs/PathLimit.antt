@@ -4,7 +4,7 @@
 --   MayBeChecked         the message is elaborated, and keeps the limit
 --   keeps_limit          the same, told by the list of all paths and links
 --   HasFewPaths          at most 4,096 paths lead to any node
-use Rattle.std.specs.Prelude.{◌≡◌, ◌<◌, ℕ, ◌+◌, Bool, true, false, not, List, [], ◌∷◌, ◌++◌, length, map, if◌then◌else◌}
+use Rattle.std.specs.Prelude.{◌≡◌, ◌↔◌, ◌<◌, ℕ, ◌+◌, Bool, true, false, not, List, [], ◌∷◌, ◌++◌, length, map, if◌then◌else◌}
 use Rattle.std.specs.List.{list_all}
 use Rattle.rx_types.specs.Domain.{Domain}
 use Rattle.rx_graph.specs.declared.message.Node.{Node}
@@ -70,9 +70,9 @@ every_node m = Start ∷ (fields_from 0 m.fields ++ Null ∷ [])
 abbrev pub keeps_limit : List Domain → Graph → Bool
 keeps_limit domains m = list_all (keeps_limit_at domains m) (every_node m)
 
--- what the lists tell of is so
+-- the lists tell whether the limit is kept
 abbrev pub LimitIsKept : List Domain → Graph → Type 0
-LimitIsKept domains m = keeps_limit domains m ≡ true → KeepsLimit domains m
+LimitIsKept domains m = (keeps_limit domains m ≡ true) ↔ KeepsLimit domains m
 
 -- at most 4,096 paths lead to any node
 abbrev pub HasFewPaths : Graph → Type 0

@@ -5,7 +5,7 @@ ghost use Rattle.rx_types.specs.Domain.{Domain, boolean};
 ghost use Rattle.rx_graph.specs.Elaborated.{IsElaborated};
 ghost use Rattle.rx_graph.specs.Graph.{domains_of, graph_of, limit_of};
 ghost use Rattle.rx_forms.specs.Steps.{AreFormable, AreNarrow};
-ghost use Rattle.rx_forms.specs.Laws.{SumsHaveValues, FactsHoldWhereTrue, RowsLeaveNoChoice, RowsHoldOfQuotients, QuotientsSolve, RowsMakePartial, PartialMakesRows};
+ghost use Rattle.rx_forms.specs.Laws.{SumsHaveValues, FactsHoldWhereTrue, RowsLeaveNoChoice, RowsHoldOfQuotients, QuotientsSolve, RowsMakePartial, PartialMakesRows, NumbersPlaceFields, FormsHaveValues, DivisionRowsHold, RowsLeaveOnePoint};
 
 use rx_graph::{Message, Spec};
 
@@ -57,4 +57,35 @@ pub fn partial_paths_make_rows(spec: &Spec, message: &Message)
     requires formable { AreFormable (limit_of (domains_of spec.now) (graph_of message.now)) (graph_of message.now) }
     requires narrow { AreNarrow (limit_of (domains_of spec.now) (graph_of message.now)) (graph_of message.now) }
     ensures { PartialMakesRows (domains_of spec.now) (graph_of message.now) }
+{}
+
+/// A length and a number of its type for each scalar of a path place the fields of the path.
+pub fn numbers_place_fields(spec: &Spec, message: &Message)
+    ensures { NumbersPlaceFields (domains_of spec.now) (graph_of message.now) }
+{}
+
+/// At one point, of the length of a message, the numbers of its scalars and the quotients, the forms of a path have the values of
+/// the fields that its links place, and the conditions hold exactly where they are true. That is so for every length and for all
+/// numbers of the scalars' types, whether the path is partial or not.
+pub fn forms_have_values(spec: &Spec, message: &Message)
+    requires elaborated { IsElaborated (domains_of spec.now) (graph_of message.now) }
+    requires formable { AreFormable (limit_of (domains_of spec.now) (graph_of message.now)) (graph_of message.now) }
+    requires narrow { AreNarrow (limit_of (domains_of spec.now) (graph_of message.now)) (graph_of message.now) }
+    ensures { FormsHaveValues (domains_of spec.now) (graph_of message.now) }
+{}
+
+/// At that point the rows of a link's divisions hold wherever the path is partial up to the link's source.
+pub fn division_rows_hold(spec: &Spec, message: &Message)
+    requires elaborated { IsElaborated (domains_of spec.now) (graph_of message.now) }
+    requires formable { AreFormable (limit_of (domains_of spec.now) (graph_of message.now)) (graph_of message.now) }
+    requires narrow { AreNarrow (limit_of (domains_of spec.now) (graph_of message.now)) (graph_of message.now) }
+    ensures { DivisionRowsHold (domains_of spec.now) (graph_of message.now) }
+{}
+
+/// And they leave the quotients no choice: no other point with that length and these numbers meets all rows of the divisions.
+pub fn rows_leave_one_point(spec: &Spec, message: &Message)
+    requires elaborated { IsElaborated (domains_of spec.now) (graph_of message.now) }
+    requires formable { AreFormable (limit_of (domains_of spec.now) (graph_of message.now)) (graph_of message.now) }
+    requires narrow { AreNarrow (limit_of (domains_of spec.now) (graph_of message.now)) (graph_of message.now) }
+    ensures { RowsLeaveOnePoint (domains_of spec.now) (graph_of message.now) }
 {}

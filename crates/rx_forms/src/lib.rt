@@ -32,8 +32,9 @@ pub use forms::{Forms, finish, forms_of, forms_with};
 pub use gather::{gather_fields, scalars_along};
 pub use interval::{interval as interval_of, scalar_type};
 pub use laws::{
-    facts_hold_where_conditions_do, links_have_forms, partial_paths_make_rows,
-    quotients_solve_divisions, rows_hold_of_quotients, rows_leave_quotients_no_choice,
+    division_rows_hold, facts_hold_where_conditions_do, forms_have_values, links_have_forms,
+    numbers_place_fields, partial_paths_make_rows, quotients_solve_divisions,
+    rows_hold_of_quotients, rows_leave_one_point, rows_leave_quotients_no_choice,
     rows_make_paths_partial, sums_have_values,
 };
 pub use linear::{Form, Linear};

@@ -162,7 +162,7 @@ fn keeps_path(
     }
 }
 
-/// Where that is so, every path of the message stays within the limit.
+/// That is so exactly where every path of the message, with none, one or two links of its end, stays within the limit.
 pub fn limit_is_kept(spec: &Spec, message: &Message)
     requires elaborated { IsElaborated (domains_of spec.now) (graph_of message.now) }
     ensures { LimitIsKept (domains_of spec.now) (graph_of message.now) }

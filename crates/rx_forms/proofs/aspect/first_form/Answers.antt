@@ -1,10 +1,7 @@
-use Rattle.std.proofs.Common.{◌≡◌, ap, sym, subst, true, false, IfOk, IfErr, Option, Some, None}
+use Rattle.std.proofs.Common.{◌≡◌, ap, sym, subst, false, IfOk, IfErr, Option}
 use Rattle.std.proofs.lemmas.Result.{IfOk-weaker}
-use Rattle.rx_types.specs.Tree.{Tree, tree_of, tree_if_any}
-use Rattle.rx_types.specs.Narrow.{IsNarrow}
+use Rattle.rx_types.specs.Tree.{Tree, tree_if_any}
 use Rattle.rx_forms.specs.declared.fault.FormFault.TheVariants.{PathLimit}
-use Rattle.rx_forms.specs.Linear.{minus}
-use Rattle.rx_forms.specs.Normal.{bits, IsNumeric}
 use Rattle.rx_forms.specs.Steps.{end_form, form_or, IsNumericIfAny, IsNarrowIfAny}
 use Rattle.rx_forms.specs.Code.{formed_all, limits_in}
 use Rattle.rx_forms.specs.Worked.{HasAspect, aspect_within}

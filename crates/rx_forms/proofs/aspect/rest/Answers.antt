@@ -1,4 +1,4 @@
-use Rattle.std.proofs.Common.{◌≡◌, subst, true, false, IfErr}
+use Rattle.std.proofs.Common.{◌≡◌, subst, false, IfErr}
 use Rattle.rx_forms.specs.declared.fault.FormFault.TheVariants.{PathLimit}
 use Rattle.rx_forms.specs.declared.linear.Linear.{Linear}
 use Rattle.rx_forms.specs.Linear.{minus}

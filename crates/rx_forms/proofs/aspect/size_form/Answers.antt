@@ -1,10 +1,9 @@
-use Rattle.std.proofs.Common.{◌≡◌, ap, sym, subst, true, false, pos, ℕ, IfOk, IfErr, OnOk, Option, Some, None}
+use Rattle.std.proofs.Common.{◌≡◌, sym, subst, true, false, pos, ℕ, IfOk, IfErr, OnOk, Option}
 use Rattle.rx_types.specs.Domain.{Domain, domain_of, size_of}
-use Rattle.rx_types.specs.Tree.{Tree, tree_if_any}
+use Rattle.rx_types.specs.Tree.{tree_if_any}
 use Rattle.rx_graph.specs.Graph.{graph_of, type_of}
 use Rattle.rx_forms.specs.declared.fault.FormFault.TheVariants.{PathLimit}
-use Rattle.rx_forms.specs.declared.linear.Linear.{Linear}
-use Rattle.rx_forms.specs.Linear.{constant, minus}
+use Rattle.rx_forms.specs.Linear.{constant}
 use Rattle.rx_forms.specs.Limits.{is_low}
 use Rattle.rx_forms.specs.Steps.{form_or, size_aspect}
 use Rattle.rx_forms.specs.Code.{formed_all, domains_in, limits_in}

@@ -1,4 +1,4 @@
-use Rattle.std.proofs.Common.{◌≡◌, refl, sym, ap, ◌∙◌, subst, List, true, false}
+use Rattle.std.proofs.Common.{◌≡◌, refl, subst, List, true, false}
 use Rattle.std.proofs.lemmas.Result.{err_from_is_err_and, IfOk-from_err}
 use Rattle.rx_types.specs.Tree.{tree_of}
 use Rattle.rx_graph.specs.Graph.{graph_of, arrow_of}

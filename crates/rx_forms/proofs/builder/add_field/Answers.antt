@@ -1,10 +1,8 @@
-use Rattle.std.proofs.Common.{◌≡◌, refl, sym, ap, ◌∙◌, ◌+◌, ◌++◌, ◌∷◌, [], ℕ, List, arith, true}
+use Rattle.std.proofs.Common.{refl, ap, ◌∙◌, ◌+◌, ◌++◌, ◌∷◌, [], ℕ, arith}
 use Rattle.std.proofs.lemmas.Result.{err_from_is_err_and, IfOk-from_err}
 use Rattle.rx_graph.specs.Graph.{graph_of, type_of}
 use Rattle.rx_forms.specs.declared.linear.Linear.{Linear}
 use Rattle.rx_forms.specs.Linear.{plus}
-use Rattle.rx_forms.specs.Limits.{is_low}
-use Rattle.rx_forms.specs.Normal.{Formed}
 use Rattle.rx_forms.specs.Code.{formed_all, domains_in, number_by}
 use Rattle.rx_forms.proofs.Building.{same_front}
 use Rattle.rx_forms.proofs.builder.add_field.Goals as goal

@@ -1,9 +1,8 @@
-use Rattle.std.proofs.Common.{◌≡◌, refl, sym, ap, ◌∙◌, subst, List, Option, true, false, IfErr}
+use Rattle.std.proofs.Common.{◌≡◌, refl, subst, List, false}
 use Rattle.std.proofs.lemmas.Result.{err_from_is_err_and, IfOk-from_err, on_ok_weaker}
-use Rattle.rx_types.specs.Tree.{Tree, tree_if_any}
+use Rattle.rx_types.specs.Tree.{tree_if_any}
 use Rattle.rx_graph.specs.Graph.{graph_of, arrow_of, type_of}
 use Rattle.rx_forms.specs.declared.field.FieldForms.{FieldForms}
-use Rattle.rx_forms.specs.declared.linear.Linear.{Linear}
 use Rattle.rx_forms.specs.Steps.{form_or, end_form, size_aspect}
 use Rattle.rx_forms.specs.Code.{formed_all, domains_in, limits_in}
 use Rattle.rx_forms.specs.Worked.{HasAspect, aspect_within, size_otherwise}

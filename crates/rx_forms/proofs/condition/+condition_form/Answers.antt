@@ -1,14 +1,12 @@
-use Rattle.std.proofs.Common.{rules, ◌≡◌, true, false, not, ap, sym, ◌∙◌, subst, refl, Bool, Some, None, IfOk, IfErr}
-use Rattle.std.proofs.lemmas.Result.{err_from_is_err_and, IfOk-from_err, IfErr-weaker}
+use Rattle.std.proofs.Common.{rules, ap, sym, ◌∙◌, subst, refl, Bool, IfOk}
+use Rattle.std.proofs.lemmas.Result.{err_from_is_err_and, IfOk-from_err}
 use Rattle.rx_types.specs.declared.expr.Expr.{Expr}
 use Rattle.rx_types.specs.declared.expr.Expr.TheViews.{the_lemmas}
-use Rattle.rx_types.specs.declared.expr.Operator.{Operator}
-use Rattle.rx_types.specs.Tree.{Tree, tree_of, Not, Binary}
+use Rattle.rx_types.specs.Tree.{Tree, tree_of, Not}
 use Rattle.rx_types.specs.Narrow.{IsNarrow}
-use Rattle.rx_forms.specs.declared.linear.Form.{Form}
 use Rattle.rx_forms.specs.Normal.{IsCondition, joined}
 use Rattle.rx_forms.specs.Limits.{is_within}
-use Rattle.rx_forms.specs.Worked.{HasFact, spelled_in, agreed, takes_all}
+use Rattle.rx_forms.specs.Worked.{HasFact, spelled_in}
 use Rattle.rx_forms.specs.Code.{formed_all, limits_in}
 use Rattle.rx_forms.proofs.Facts
 use Rattle.rx_forms.proofs.Numbers

@@ -1,14 +1,12 @@
-use Rattle.std.proofs.Common.{◌≡◌, refl, sym, ap, ◌∙◌, subst, ℕ, ◌+◌, ◌≤◌, ◌<◌, arith, Bool, true, false, not, ◌&&◌, IfOk, IfErr, OnOk}
+use Rattle.std.proofs.Common.{◌≡◌, sym, ap, ◌∙◌, subst, ◌≤◌, true, false}
 use Rattle.std.proofs.lemmas.Result.{err_from_is_err_and, IfOk-from_err, on_ok_weaker}
-use Rattle.rx_graph.specs.Graph.{graph_of, limit_of}
-use Rattle.rx_forms.specs.declared.forms.Forms.{Forms}
-use Rattle.rx_forms.specs.Gathered.{into_fields, passes_limit, forms_along}
-use Rattle.rx_forms.specs.Steps.{links_on, scalars_on}
+use Rattle.rx_graph.specs.Graph.{graph_of}
+use Rattle.rx_forms.specs.Gathered.{into_fields}
+use Rattle.rx_forms.specs.Steps.{links_on}
 use Rattle.rx_forms.specs.Code.{domains_in}
-use Rattle.rx_forms.specs.Fronts.{Front, front_of, forms_in, first_front, after_links, links_within, after_ends, ends_within, ends_of, after_path, path_within}
-use Rattle.rx_forms.proofs.Kept.{off_left, off_right, on_both}
+use Rattle.rx_forms.specs.Fronts.{Front, front_of, after_ends, ends_within, ends_of}
+use Rattle.rx_forms.proofs.Kept.{off_left, off_right}
 use Rattle.rx_forms.proofs.Looping
-use Rattle.rx_forms.proofs.Telling
 use Rattle.rx_forms.proofs.Reaching.{both_ok, fails_too}
 use Rattle.rx_forms.proofs.forms.gather_path.Goals as goal
 

@@ -1,11 +1,9 @@
-use Rattle.std.proofs.Common.{◌≡◌, refl, sym, ap, ◌∙◌, subst, ℕ, ◌≤◌, ◌<◌, ◌^◌, arith, List, [], ◌∷◌, ◌++◌, Bool, true, false, not, ◌||◌, IfErr, OnOk, Some, None, slice_get}
-use Rattle.std.proofs.lemmas.Result.{err_from_is_err_and, IfOk-from_err, on_ok_weaker}
-use Rattle.rx_graph.specs.Graph.{Arrow, graph_of, arrow_of, arrows}
+use Rattle.std.proofs.Common.{◌≡◌, refl, sym, ap, ◌∙◌, subst, List, true, false, IfErr, OnOk}
+use Rattle.std.proofs.lemmas.Result.{on_ok_weaker}
+use Rattle.rx_graph.specs.Graph.{Arrow, graph_of, arrow_of}
 use Rattle.rx_forms.specs.declared.fault.FormFault.TheVariants.{PathLimit}
-use Rattle.rx_forms.specs.Gathered.{into_fields}
-use Rattle.rx_forms.specs.Steps.{links_on, leads_to_field}
-use Rattle.rx_forms.specs.Code.{domains_in, limits_in}
-use Rattle.rx_forms.specs.Fronts.{front_of, after_links, links_within, after_ends, ends_within, ends_of}
+use Rattle.rx_forms.specs.Code.{domains_in}
+use Rattle.rx_forms.specs.Fronts.{front_of, after_ends, ends_within}
 use Rattle.rx_forms.proofs.Kept.{off_left, on_both}
 use Rattle.rx_forms.proofs.Looping
 use Rattle.rx_forms.proofs.Reaching.{fails_too}

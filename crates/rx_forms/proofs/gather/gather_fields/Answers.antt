@@ -1,15 +1,12 @@
-use Rattle.std.proofs.Common.{◌≡◌, refl, sym, ap, ◌∙◌, subst, ℕ, ◌+◌, ◌≤◌, ◌<◌, ◌^◌, arith, List, [], ◌∷◌, ◌++◌, length, get_or, drop, Bool, true, false, not, ◌||◌, IfErr, OnOk, Some, None, slice_get}
-use Rattle.std.proofs.lemmas.Result.{err_from_is_err_and, IfOk-from_err, on_ok_weaker}
+use Rattle.std.proofs.Common.{◌≡◌, refl, sym, ap, ◌∙◌, subst, ℕ, ◌+◌, ◌≤◌, arith, List, [], ◌∷◌, get_or, drop}
+use Rattle.std.proofs.lemmas.Result.{err_from_is_err_and, IfOk-from_err}
 use Rattle.std.proofs.lemmas.List.{drop_all}
-use Rattle.rx_graph.specs.Graph.{Arrow, graph_of, arrow_of, arrows}
-use Rattle.rx_forms.specs.declared.fault.FormFault.TheVariants.{PathLimit}
+use Rattle.rx_graph.specs.Graph.{graph_of}
 use Rattle.rx_forms.specs.Gathered.{into_fields}
-use Rattle.rx_forms.specs.Steps.{links_on, leads_to_field, scalars_on}
-use Rattle.rx_forms.specs.Code.{domains_in, limits_in}
-use Rattle.rx_forms.specs.Fronts.{Front, front_of, after_links, links_within, after_ends, ends_within, ends_of}
-use Rattle.rx_forms.proofs.Kept.{off_left, on_both}
+use Rattle.rx_forms.specs.Steps.{links_on}
+use Rattle.rx_forms.specs.Code.{domains_in}
+use Rattle.rx_forms.specs.Fronts.{Front, front_of, after_links, links_within}
 use Rattle.rx_forms.proofs.Looping
-use Rattle.rx_forms.proofs.Reaching.{fails_too}
 use Rattle.rx_forms.proofs.gather.gather_fields.Goals as goal
 
 few_left : (a b x s t : ℕ) → a + b ≡ x → x ≡ s + t → s + t ≤ 190 → a ≤ 190

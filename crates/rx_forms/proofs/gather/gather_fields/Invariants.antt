@@ -3,7 +3,7 @@ use Rattle.rx_graph.specs.Graph.{graph_of}
 use Rattle.rx_forms.specs.Gathered.{into_fields}
 use Rattle.rx_forms.specs.Steps.{links_on}
 use Rattle.rx_forms.specs.Code.{domains_in}
-use Rattle.rx_forms.specs.Fronts.{front_of, after_links, links_within, ends_of}
+use Rattle.rx_forms.specs.Fronts.{front_of, after_links, links_within}
 use Rattle.rx_forms.proofs.gather.gather_fields.Given as goal
 
 abbrev pub invariant-loop-index : goal.invariant-loop-index

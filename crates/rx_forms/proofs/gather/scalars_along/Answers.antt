@@ -1,4 +1,4 @@
-use Rattle.std.proofs.Common.{◌≡◌, ◌∙◌, ap, sym, arith, get_or, drop}
+use Rattle.std.proofs.Common.{arith}
 use Rattle.rx_graph.specs.Graph.{graph_of}
 use Rattle.rx_forms.specs.Code.{domains_in}
 use Rattle.rx_forms.proofs.Looping.{scalars_next}

@@ -1,4 +1,4 @@
-use Rattle.std.proofs.Common.{rules, ◌≡◌, true, false, ap, sym, ◌∙◌, subst, arith, refl, ◌<ℤ◌, pos, ℤ, ◌+◌, ◌++◌, ◌&&◌, nat_le, IfOk, IfErr, OnOk}
+use Rattle.std.proofs.Common.{rules, ◌≡◌, true, false, ap, sym, ◌∙◌, subst, arith, refl, ℤ, ◌+◌, ◌++◌, ◌&&◌, nat_le, IfOk, IfErr, OnOk}
 use Rattle.std.proofs.lemmas.Int.{ints}
 use Rattle.std.proofs.lemmas.Result.{err_from_is_err_and, IfOk-from_err, IfOk-weaker}
 use Rattle.std.proofs.Common.{to_z, of_z}

@@ -1,7 +1,7 @@
-use Rattle.std.proofs.Common.{◌≡◌, ap, ◌∙◌, subst, pos, true, false, IfOk, IfErr}
+use Rattle.std.proofs.Common.{◌≡◌, ap, ◌∙◌, subst, true, false, IfOk, IfErr}
 use Rattle.rx_forms.specs.declared.fault.FormFault.TheVariants.{PathLimit}
 use Rattle.rx_forms.specs.declared.linear.Linear.{Linear}
-use Rattle.rx_forms.specs.Linear.{minus, less_one}
+use Rattle.rx_forms.specs.Linear.{minus}
 use Rattle.rx_forms.specs.Limits.{has_words}
 use Rattle.rx_forms.proofs.Reaching.{one_less_is}
 use Rattle.rx_forms.proofs.number.one_less.Goals as goal
