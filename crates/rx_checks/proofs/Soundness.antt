@@ -1,5 +1,6 @@
--- What verdicts and reports show: that checks hold or do not, and that a message is sound and has one reading.
-use Rattle.std.proofs.Common.{◌≡◌, sym, subst, ◌∙◌, ℕ, zero, suc, ◌<◌, arith, List, [], ◌∷◌, map, length, Bool, true, false, inl, inr}
+-- What verdicts and reports show: that checks hold or do not, and that a message is sound and has one reading; and that a sound
+-- message passes.
+use Rattle.std.proofs.Common.{◌≡◌, refl, sym, subst, ◌∙◌, ℕ, zero, suc, ◌<◌, arith, List, [], ◌∷◌, ◌++◌, map, length, Bool, true, false, inl, inr}
 use Rattle.std.specs.Prelude.{Contains, not, slice_index_or}
 use Rattle.std.specs.List.{AllByRecursion}
 use Rattle.rx_types.specs.Domain.{Domain}
@@ -25,16 +26,17 @@ use Rattle.rx_layout.specs.Goals.{source, is_universal, IsGoal, MetBy, GoalHolds
 use Rattle.rx_layout.specs.QueryOf.{query_for}
 use Rattle.rx_layout.specs.Listed.{Among}
 use Rattle.rx_layout.proofs.Whole.{goals_point}
-use Rattle.rx_layout.proofs.Listing.{goals_are_listed}
-use Rattle.rx_layout.proofs.Holding.{all_hold}
+use Rattle.rx_layout.proofs.Listing.{goals_are_listed, listed_are_goals}
+use Rattle.rx_layout.proofs.Holding.{all_hold, goals_hold}
 use Rattle.rx_checks.specs.declared.verdict.Evidence.{Evidence}
 use Rattle.rx_checks.specs.declared.verdict.Evidence.TheVariants.{Proofs, Found}
 use Rattle.rx_checks.specs.declared.verdict.Verdict.{Verdict}
 use Rattle.rx_checks.specs.declared.verdict.Verdict.TheVariants.{Passed, Failed, Undecided}
 use Rattle.rx_checks.specs.declared.report.Line.{Line}
+use Rattle.rx_checks.specs.declared.report.Report.{Report}
 use Rattle.rx_checks.specs.Verdicts
-use Rattle.rx_checks.specs.Reports.{HasPassed, AllPassed}
-use Rattle.rx_checks.specs.Laws.{HasFailed, VerdictsAreTrue, HasOneReading, ReportsShowSoundness, ReportsShowOneReading}
+use Rattle.rx_checks.specs.Reports.{IsReport, HasPassed, AllPassed}
+use Rattle.rx_checks.specs.Laws.{HasFailed, IsUndecided, HasLongWalk, VerdictsAreTrue, HasOneReading, ReportsShowSoundness, ReportsShowOneReading, WalksEnd, SoundMessagesPass}
 
 at_place : (P : List ℕ → Type 0) (xs : List (List ℕ)) (p : List ℕ) (k : ℕ) → k < length xs → slice_index_or xs k p ≡ p → AllByRecursion P xs → P p
 at_place P [] p k h e all = absurd (omega (arith, h))
@@ -127,3 +129,67 @@ one_reading domains m sound =
 
 pub show_one_reading : (domains : List Domain) (m : Graph) → IsElaborated domains m → AreFormable (limit_of domains m) m → AreNarrow (limit_of domains m) m → ReportsShowOneReading domains m
 show_one_reading domains m el formable narrow splits r h passed = one_reading domains m (show_soundness domains m el formable narrow splits r h passed)
+
+-- ---- the walk of an undecided verdict
+
+module _ (domains : List Domain) (m : Graph) (splits : ℕ) (goal : Goal) where
+  abbrev LeadsToSource : List ℕ → Type 0
+  LeadsToSource path = IsPath m Start path (source goal)
+
+  leads_there : (paths before after : List (List ℕ)) (path : List ℕ) → AllByRecursion LeadsToSource paths → paths ≡ before ++ path ∷ after → LeadsToSource path
+  leads_there [] [] after path all e = cc
+  leads_there [] (p ∷ before) after path all e = cc
+  leads_there (p ∷ paths) [] after path all e = subst LeadsToSource (head_same p path paths after e) all.0
+    where
+      head_same : (p q : List ℕ) (ps qs : List (List ℕ)) → p ∷ ps ≡ q ∷ qs → p ≡ q
+      head_same p q ps qs e = cc
+  leads_there (p ∷ paths) (q ∷ before) after path all e = leads_there paths before after path all.1 (rest_same p q paths (before ++ path ∷ after) e)
+    where
+      rest_same : (p q : List ℕ) (ps qs : List (List ℕ)) → p ∷ ps ≡ q ∷ qs → ps ≡ qs
+      rest_same p q ps qs e = cc
+
+  -- it is that of a path to the source, and needs more inner nodes than there are splits
+  pub over_at : (verdict : Verdict) → IsGoal domains m goal → Verdicts.StandsFor domains m splits goal verdict → IsUndecided verdict → HasLongWalk domains m splits
+  over_at (Passed evidence) is h undecided = absurd undecided
+  over_at (Failed evidence) is h undecided = absurd undecided
+  over_at (Undecided path tree) is h undecided =
+      let first = h.2.1 in
+      (goal, path, is, leads_there h.0 first.before first.after path h.1.alone first.is, first.has)
+
+-- ---- sound messages pass
+
+module _ (domains : List Domain) (m : Graph) (el : IsElaborated domains m) (formable : AreFormable (limit_of domains m) m) (narrow : AreNarrow (limit_of domains m) m) (splits : ℕ) (hold : AllGoalsHold domains m) where
+  abbrev Stands : Line → Type 0
+  Stands line = Verdicts.StandsFor domains m splits line.goal line.verdict
+
+  none_fail : (lines : List Line) → AllByRecursion Stands lines → ((goal : Goal) → Among goal (map (λ line. line.goal) lines) → IsGoal domains m goal) → AllByRecursion (λ line. HasFailed line.verdict → ⊥) lines
+  none_fail [] stand goals = tt
+  none_fail (line ∷ lines) stand goals =
+      let is = goals line.goal (inl refl) in
+      ((λ failed. failed_fails domains m el formable narrow splits line.goal line.verdict is stand.0 failed (hold line.goal is)), none_fail lines stand.1 (λ goal among. goals goal (inr among)))
+
+  passes : (goal : Goal) (verdict : Verdict) → (IsUndecided verdict → HasLongWalk domains m splits) → (HasFailed verdict → ⊥) → WalksEnd domains m splits → HasPassed verdict
+  passes goal (Passed evidence) long fails ends = tt
+  passes goal (Failed evidence) long fails ends = absurd (fails tt)
+  passes goal (Undecided path tree) long fails ends = (let w = long tt in absurd (ends w.0 w.1 w.2 w.3 w.4))
+
+  each_passes : (lines : List Line) → AllByRecursion Stands lines → ((goal : Goal) → Among goal (map (λ line. line.goal) lines) → IsGoal domains m goal) → AllByRecursion (λ line. HasFailed line.verdict → ⊥) lines → WalksEnd domains m splits → AllPassed lines
+  each_passes [] stand goals fails ends = tt
+  each_passes (line ∷ lines) stand goals fails ends = (
+    passes line.goal line.verdict (over_at domains m splits line.goal line.verdict (goals line.goal (inl refl)) stand.0) fails.0 ends,
+    each_passes lines stand.1 (λ goal among. goals goal (inr among)) fails.1 ends,
+  )
+
+-- each line of a report is about a check of the message
+pub lines_are_goals : (domains : List Domain) (m : Graph) (splits : ℕ) (r : Report) → IsReport domains m splits r → (goal : Goal) → Among goal (map (λ line. line.goal) r.lines.items) → IsGoal domains m goal
+lines_are_goals domains m splits r h goal among = listed_are_goals domains m goal (subst (λ goals. Among goal goals) h.goals among)
+
+pub messages_pass : (domains : List Domain) (m : Graph) → IsElaborated domains m → AreFormable (limit_of domains m) m → AreNarrow (limit_of domains m) m → SoundMessagesPass domains m
+messages_pass domains m el formable narrow =
+    record {
+      none_fails = λ splits r h hold. none_fail domains m el formable narrow splits (goals_hold domains m hold) r.lines.items h.stand (lines_are_goals domains m splits r h);
+      all_pass = λ splits r h hold ends.
+          let goals = goals_hold domains m hold in
+          each_passes domains m el formable narrow splits goals r.lines.items h.stand (lines_are_goals domains m splits r h)
+          (none_fail domains m el formable narrow splits goals r.lines.items h.stand (lines_are_goals domains m splits r h)) ends;
+    }

@@ -3,17 +3,25 @@
 --   ReportsShowSoundness   where every line of a report has passed, the message is sound
 --   HasOneReading          at most one whole path fits a buffer, and at most one a valuation
 --   ReportsShowOneReading  where every line of a report has passed, the message has one reading
+--   HasBrokenCheck, HasLongWalk   some check does not hold; the walk of some check needs more inner nodes than there are splits
+--   WalksEnd               no walk of a check needs more inner nodes than there are splits
+--   SoundMessagesPass      a sound message fails no check, and passes all where walks end
 --   IsSameVerdict          two verdicts are one, but for what shows them
 --   ReportsAreOne          two reports of a message with as many splits tell the same
-use Rattle.std.specs.Prelude.{◌≡◌, ℕ, List, [], ◌∷◌, length}
+use Rattle.std.specs.Prelude.{◌≡◌, ◌≢◌, ℕ, List, [], ◌∷◌, length}
+use Rattle.std.specs.List.{AllByRecursion}
 use Rattle.rx_types.specs.Domain.{Domain}
+use Rattle.rx_graph.specs.declared.message.Node.TheVariants.{Start}
+use Rattle.rx_graph.specs.Checks.{AllHold}
+use Rattle.rx_graph.specs.Cycles.{IsPath}
 use Rattle.rx_graph.specs.Elaborated.{IsSound}
 use Rattle.rx_graph.specs.Fits.{Assigned, IsAscending, Fits}
 use Rattle.rx_graph.specs.Graph.{Graph}
 use Rattle.rx_graph.specs.Laws.{FitsHaveLength}
 use Rattle.rx_graph.specs.Paths.{HasOnePath}
 use Rattle.rx_layout.specs.declared.goal.Goal.{Goal}
-use Rattle.rx_layout.specs.Goals.{IsGoal, GoalHolds}
+use Rattle.rx_layout.specs.Goals.{source, IsGoal, GoalHolds}
+use Rattle.rx_prover.specs.Walk.{Over}
 use Rattle.rx_types.specs.Environment.{Placed}
 use Rattle.rx_checks.specs.declared.verdict.Evidence.{Evidence}
 use Rattle.rx_checks.specs.declared.verdict.Evidence.TheVariants.{Proofs, Found}
@@ -22,11 +30,15 @@ use Rattle.rx_checks.specs.declared.verdict.Verdict.TheVariants.{Passed, Failed,
 use Rattle.rx_checks.specs.declared.report.Line.{Line}
 use Rattle.rx_checks.specs.declared.report.Report.{Report}
 use Rattle.rx_checks.specs.Reports.{IsReport, HasPassed, AllPassed}
-use Rattle.rx_checks.specs.Verdicts.{StandsFor}
+use Rattle.rx_checks.specs.Verdicts.{walk_of, StandsFor}
 
 abbrev pub HasFailed : Verdict → Type 0
 HasFailed (Failed evidence) = Unit {0}
 HasFailed other = ⊥
+
+abbrev pub IsUndecided : Verdict → Type 0
+IsUndecided (Undecided path tree) = Unit {0}
+IsUndecided other = ⊥
 
 module _ (domains : List Domain) (m : Graph) where
   -- a check that passed holds, and one that failed does not
@@ -46,6 +58,23 @@ module _ (domains : List Domain) (m : Graph) where
 
   abbrev pub ReportsShowSoundness : Type 0
   ReportsShowSoundness = (splits : ℕ) (r : Report) → IsReport domains m splits r → AllPassed r.lines.items → IsSound domains m
+
+  -- some check of the message does not hold
+  abbrev pub HasBrokenCheck : Type 0
+  HasBrokenCheck = (goal : Goal) × IsGoal domains m goal × (GoalHolds domains m goal → ⊥)
+
+  -- the walk of some check, on a path to its source, needs more inner nodes than there are splits
+  abbrev pub HasLongWalk : ℕ → Type 0
+  HasLongWalk splits = (goal : Goal) × (path : List ℕ) × IsGoal domains m goal × IsPath m Start path (source goal) × (walk_of domains m splits goal path ≡ Over)
+
+  -- no walk of a check, on a path to its source, needs more inner nodes than there are splits
+  abbrev pub WalksEnd : ℕ → Type 0
+  WalksEnd splits = (goal : Goal) (path : List ℕ) → IsGoal domains m goal → IsPath m Start path (source goal) → walk_of domains m splits goal path ≢ Over
+
+  -- where all checks of a message hold, no line of its report has failed, and each has passed where the walks end
+  pub record SoundMessagesPass : Type 0 where
+    pub none_fails : (splits : ℕ) (r : Report) → IsReport domains m splits r → AllHold domains m → AllByRecursion (λ line. HasFailed line.verdict → ⊥) r.lines.items
+    pub all_pass : (splits : ℕ) (r : Report) → IsReport domains m splits r → AllHold domains m → WalksEnd splits → AllPassed r.lines.items
 
 -- as many proofs, or the same path
 abbrev pub IsSameKind : Evidence → Evidence → Type 0

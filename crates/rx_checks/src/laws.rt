@@ -4,7 +4,7 @@ ghost use Rattle.std.specs.Prelude.{◌≡◌, Some, slice_get};
 ghost use Rattle.rx_types.specs.Domain.{Domain, boolean};
 ghost use Rattle.rx_graph.specs.Elaborated.{IsElaborated};
 ghost use Rattle.rx_graph.specs.Graph.{domains_of, graph_of};
-ghost use Rattle.rx_checks.specs.Laws.{VerdictsAreTrue, ReportsShowSoundness, ReportsShowOneReading, ReportsAreOne};
+ghost use Rattle.rx_checks.specs.Laws.{VerdictsAreTrue, ReportsShowSoundness, ReportsShowOneReading, SoundMessagesPass, ReportsAreOne};
 
 use rx_graph::{Message, Spec};
 
@@ -27,6 +27,14 @@ pub fn reports_show_one_reading(spec: &Spec, message: &Message)
     requires elaborated { IsElaborated (domains_of spec.now) (graph_of message.now) }
     requires boolean { (d : Domain) → slice_get (domains_of spec.now) 0 ≡ Some d → d ≡ boolean }
     ensures { ReportsShowOneReading (domains_of spec.now) (graph_of message.now) }
+{}
+
+/// Where all checks of a message hold, no line of its report has failed, and every line has passed where no walk needs more inner
+/// nodes than there are splits.
+pub fn sound_messages_pass(spec: &Spec, message: &Message)
+    requires elaborated { IsElaborated (domains_of spec.now) (graph_of message.now) }
+    requires boolean { (d : Domain) → slice_get (domains_of spec.now) 0 ≡ Some d → d ≡ boolean }
+    ensures { SoundMessagesPass (domains_of spec.now) (graph_of message.now) }
 {}
 
 /// Two reports of a message with as many splits tell the same, but for the steps of proofs, the length and the numbers.

@@ -17,7 +17,8 @@ pub use acceptance::accepted;
 pub use checking::check;
 pub use fault::NoMemory;
 pub use laws::{
-    reports_are_one, reports_show_one_reading, reports_show_soundness, verdicts_are_true,
+    reports_are_one, reports_show_one_reading, reports_show_soundness, sound_messages_pass,
+    verdicts_are_true,
 };
 pub use report::{Line, Report};
 pub use verdict::{Evidence, Verdict};

@@ -1,5 +1,5 @@
 -- The query of what was gathered is that of the path and the goal.
-use Rattle.std.proofs.Common.{◌≡◌, refl, sym, ap, ◌∙◌, subst, ℕ, ◌+◌, ◌<◌, arith, List, [], ◌∷◌, ◌++◌, map, Bool, if◌then◌else◌, append_assoc, Some}
+use Rattle.std.proofs.Common.{◌≡◌, refl, sym, ap, ◌∙◌, ℕ, ◌+◌, ◌<◌, List, [], ◌∷◌, ◌++◌, map, Bool, if◌then◌else◌, append_assoc}
 use Rattle.std.specs.List.{flat_map}
 use Rattle.rx_types.specs.Domain.{Domain, size_of, IsProper, Integer, Enumeration}
 use Rattle.rx_graph.specs.declared.message.Node.{Node}
@@ -7,7 +7,6 @@ use Rattle.rx_graph.specs.declared.message.Node.TheVariants.{Start, At}
 use Rattle.rx_graph.specs.Graph.{Arrow, Graph, type_of, limit_of}
 use Rattle.rx_graph.specs.Cycles.{IsPath}
 use Rattle.rx_graph.specs.Elaborated.{IsElaborated}
-use Rattle.rx_proof.specs.declared.query.Query.{Query}
 use Rattle.rx_forms.specs.declared.linear.Linear.{Linear}
 use Rattle.rx_forms.specs.declared.linear.Form.{Form, All}
 use Rattle.rx_forms.specs.declared.builder.Builder.{Builder}
@@ -16,7 +15,6 @@ use Rattle.rx_forms.specs.Steps
 use Rattle.rx_forms.specs.Steps.{Step, AreFormable, AreNarrow, link_then, links_on, scalars_on, place_forms, condition_form, division_forms, type_form_any}
 use Rattle.rx_forms.specs.Gathered.{into_fields}
 use Rattle.rx_forms.specs.Laws.{fields_on}
-use Rattle.rx_forms.specs.Code.{formed_all}
 use Rattle.rx_forms.specs.Fronts.{Front, front_of, first_front, after_links}
 use Rattle.rx_forms.proofs.Looping.{is_field}
 use Rattle.rx_forms.proofs.Gathering.{fields_after, division_is, rows_after, conditions_after}

@@ -1,7 +1,7 @@
 -- What a goal asks at the end of a path fits a system.
-use Rattle.std.proofs.Common.{◌≡◌, refl, sym, ap, subst, ◌∙◌, ℕ, ◌+◌, ◌<◌, ◌≤◌, arith, List, [], ◌∷◌, ◌++◌, length, Bool, true, false, if◌then◌else◌, slice_get, pos, negsuc, Option, Some, None}
+use Rattle.std.proofs.Common.{◌≡◌, refl, sym, ap, subst, ◌∙◌, ℕ, ◌+◌, ◌≤◌, arith, List, [], ◌∷◌, length, Bool, true, false, if◌then◌else◌, slice_get, pos, negsuc, Option, Some, None}
 use Rattle.std.specs.Prelude.{nat_le}
-use Rattle.std.specs.List.{list_all, AllByRecursion}
+use Rattle.std.specs.List.{AllByRecursion}
 use Rattle.rx_linear.proofs.Joining.{both, and_true}
 use Rattle.rx_types.specs.declared.interval.Interval.{Interval}
 use Rattle.rx_types.specs.Domain.{Domain}
@@ -12,14 +12,14 @@ use Rattle.rx_graph.specs.declared.message.Node.TheVariants.{Start, At, Null}
 use Rattle.rx_graph.specs.Graph.{Arrow, Graph, limit_of, overlay_of}
 use Rattle.rx_forms.specs.declared.linear.Linear.{Linear}
 use Rattle.rx_forms.specs.declared.linear.Form.{Form}
-use Rattle.rx_forms.specs.Normal.{Formed, divisions_in, bits}
+use Rattle.rx_forms.specs.Normal.{Formed, bits}
 use Rattle.rx_forms.specs.Limits.{all_kept, is_within}
 use Rattle.rx_forms.specs.Steps.{form_or, divisions_in_any, size_aspect, IsNarrowIfAny, IsNarrowLink, AreNarrow, link_then, links_on, scalars_on, leads_to_field, target_field}
 use Rattle.rx_forms.specs.Gathered.{met_any, into_fields}
 use Rattle.rx_forms.specs.Worked.{aspect_within, size_otherwise}
 use Rattle.rx_forms.specs.Fronts.{Front, first_front, after_links, links_within, after_end}
 use Rattle.rx_forms.proofs.Gathering.{division_is}
-use Rattle.rx_layout.specs.Fitting.{fits, fits_row, IsLowTo, AreLowTo, IsFitting}
+use Rattle.rx_layout.specs.Fitting.{fits, IsLowTo, IsFitting}
 use Rattle.rx_layout.specs.Made
 use Rattle.rx_layout.specs.Made.{behind, formula_behind, units_behind}
 use Rattle.rx_layout.specs.declared.goal.Goal.{Goal}

@@ -13,7 +13,7 @@ use Rattle.rx_linear.proofs.Joining.{both}
 use Rattle.rx_forms.specs.Linear.{minus, above}
 use Rattle.rx_forms.specs.Limits.{is_within}
 use Rattle.rx_forms.specs.Worked.{aspect_within}
-use Rattle.rx_forms.specs.Normal.{Formed, condition, divisions_in, formed_of, bits}
+use Rattle.rx_forms.specs.Normal.{Formed, condition, divisions_in, bits}
 use Rattle.rx_forms.specs.Divisions.{divisions}
 use Rattle.rx_forms.specs.Steps.{form_or, target_field, size_aspect, divisions_any, divisions_in_any, first_form, size_form, end_form}
 use Rattle.rx_forms.specs.Fronts.{Front, after_end}

@@ -1,5 +1,5 @@
 -- Sums that stay within the path limit may be the rows of a system.
-use Rattle.std.proofs.Common.{◌≡◌, refl, sym, ap, subst, ◌∙◌, ℕ, zero, suc, ◌+◌, ◌<◌, ◌≤◌, ◌^◌, ◌==◌, arith, List, [], ◌∷◌, ◌++◌, map, length, replicate, Bool, true, false, ◌&&◌, if◌then◌else◌, ℤ, pos, negsuc, neg_ℤ, ◌+ℤ◌, ◌-ℤ◌, ◌*ℤ◌, unsigned_abs, Option, Some, None}
+use Rattle.std.proofs.Common.{◌≡◌, refl, ℕ, zero, suc, ◌+◌, ◌<◌, ◌≤◌, ◌^◌, arith, List, [], ◌∷◌, ◌++◌, length, replicate, true, ℤ, pos, negsuc, ◌+ℤ◌, ◌-ℤ◌, ◌*ℤ◌, unsigned_abs}
 use Rattle.std.specs.Prelude.{nat_le, nat_lt}
 use Rattle.std.specs.List.{list_all}
 use Rattle.std.proofs.lemmas.Int.{ints}
@@ -7,7 +7,7 @@ use Rattle.rx_model.specs.Sums.{weighted_sum}
 use Rattle.rx_linear.specs.Rows.{all_below}
 use Rattle.rx_linear.proofs.Joining.{both, and_true}
 use Rattle.rx_forms.specs.declared.linear.Linear.{Linear}
-use Rattle.rx_forms.specs.Linear.{constant, term, minus, less_one}
+use Rattle.rx_forms.specs.Linear.{minus, less_one}
 use Rattle.rx_forms.specs.Limits.{is_low}
 use Rattle.rx_layout.specs.Fitting.{fits_row}
 pub use Rattle.rx_layout.specs.Fitting.{IsLowTo}

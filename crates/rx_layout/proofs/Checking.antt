@@ -4,7 +4,7 @@ use Rattle.std.specs.List.{flat_map}
 use Rattle.std.proofs.lemmas.List.{drop_more, drop_all}
 use Rattle.rx_types.specs.Domain.{Domain}
 use Rattle.rx_graph.specs.declared.message.Node.{Node}
-use Rattle.rx_graph.specs.declared.message.Node.TheVariants.{Start, At, Null}
+use Rattle.rx_graph.specs.declared.message.Node.TheVariants.{At}
 use Rattle.rx_graph.specs.declared.message.Field.{Field}
 use Rattle.rx_graph.specs.declared.message.Link.{Link}
 use Rattle.rx_graph.specs.Graph.{Arrow, Graph, arrow_of, arrows}

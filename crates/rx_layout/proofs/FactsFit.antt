@@ -1,7 +1,6 @@
 -- The facts of conditions that stay within the path limit may be the rows of a system.
-use Rattle.std.proofs.Common.{◌≡◌, refl, sym, ap, subst, ◌∙◌, ℕ, zero, suc, ◌+◌, ◌<◌, ◌≤◌, ◌^◌, arith, List, [], ◌∷◌, ◌++◌, length, Bool, true, false, not, ◌&&◌, if◌then◌else◌, ℤ, pos, negsuc, unsigned_abs, Option, Some, None}
+use Rattle.std.proofs.Common.{◌≡◌, refl, sym, ◌∙◌, ℕ, ◌+◌, ◌≤◌, arith, List, [], ◌∷◌, ◌++◌, Bool, true, false, not, pos, negsuc, Option, Some, None}
 use Rattle.std.proofs.lemmas.Int.{ints}
-use Rattle.std.specs.List.{list_all}
 use Rattle.std.proofs.lemmas.List.Folds.{list_all-append}
 use Rattle.rx_linear.proofs.Joining.{both, and_true}
 use Rattle.rx_types.specs.declared.expr.Operator.{Operator}
@@ -10,7 +9,7 @@ use Rattle.rx_types.specs.Tree.{Tree, Number, Truth, Field, First, Last, Size, T
 use Rattle.rx_types.specs.Value.{truth_value}
 use Rattle.rx_forms.specs.declared.linear.Linear.{Linear}
 use Rattle.rx_forms.specs.declared.linear.Form.{Form, AtLeast, All, Any}
-use Rattle.rx_forms.specs.Linear.{constant, minus, less_one, at_least, above, equal, unequal}
+use Rattle.rx_forms.specs.Linear.{constant, minus, less_one, at_least, above, equal}
 use Rattle.rx_forms.specs.Normal.{Formed, formed_of, linear, divisions_in, condition, comparison, joined, settled, compared, agree, truth_in}
 use Rattle.rx_forms.specs.Limits.{Met, is_kept, all_kept, is_low, met, met_in_both, of_sides, differences}
 use Rattle.rx_layout.specs.Fitting.{fits, fits_row}

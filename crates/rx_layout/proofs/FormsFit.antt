@@ -1,18 +1,17 @@
 -- The facts of the fields of a path, and all that was gathered, fit a system.
-use Rattle.std.proofs.Common.{◌≡◌, refl, sym, ap, subst, ◌∙◌, ℕ, zero, suc, ◌+◌, ◌<◌, ◌≤◌, ◌^◌, ◌==◌, arith, List, [], ◌∷◌, ◌++◌, map, length, replicate, Bool, true, false, if◌then◌else◌, ℤ, pos, negsuc, ◌*ℤ◌, ◌+ℤ◌, unsigned_abs, Option, Some, None, slice_get}
+use Rattle.std.proofs.Common.{◌≡◌, refl, ◌∙◌, ℕ, ◌+◌, ◌<◌, ◌≤◌, ◌^◌, ◌==◌, arith, List, [], ◌∷◌, ◌++◌, map, length, Bool, true, false, if◌then◌else◌, ℤ, pos, negsuc, ◌*ℤ◌, ◌+ℤ◌, unsigned_abs, Option, Some, None, slice_get}
 use Rattle.std.proofs.lemmas.Int.{ints}
 use Rattle.std.specs.List.{list_all, AllByRecursion}
-use Rattle.std.proofs.lemmas.List.Folds.{list_all-append}
 use Rattle.rx_model.specs.Sums.{weighted_sum}
 use Rattle.rx_linear.proofs.Joining.{both, and_true}
 use Rattle.rx_types.specs.Domain.{Domain, size_of, IsProper}
 use Rattle.rx_graph.specs.Graph.{Graph, type_of, overlay_of}
 use Rattle.rx_forms.specs.declared.linear.Linear.{Linear}
-use Rattle.rx_forms.specs.declared.linear.Form.{Form, AtLeast, All, Any}
+use Rattle.rx_forms.specs.declared.linear.Form.{AtLeast, All}
 use Rattle.rx_forms.specs.declared.field.FieldForms.{FieldForms}
 use Rattle.rx_forms.specs.declared.builder.Builder.{Builder}
-use Rattle.rx_forms.specs.Linear.{constant, term, minus, equal}
-use Rattle.rx_forms.specs.Normal.{Formed, formed_of, bits}
+use Rattle.rx_forms.specs.Linear.{minus, equal}
+use Rattle.rx_forms.specs.Normal.{formed_of, bits}
 use Rattle.rx_forms.specs.Steps.{same_form, is_among}
 use Rattle.rx_forms.specs.Code.{number_by, formed, formed_all}
 use Rattle.rx_forms.specs.Fronts.{front_of}
@@ -20,12 +19,11 @@ use Rattle.rx_layout.specs.Fitting.{fits, fits_row}
 use Rattle.rx_layout.specs.Made
 use Rattle.rx_layout.specs.Made.{typed, placed}
 use Rattle.rx_layout.specs.QueryOf.{rows, length_form}
-use Rattle.rx_layout.specs.Types.{type_form}
-use Rattle.rx_layout.proofs.Gathered.{fits_at_least, fits_all, fits_any}
+use Rattle.rx_layout.proofs.Gathered.{fits_at_least, fits_all}
 use Rattle.rx_layout.proofs.Stepping.{term_length}
-use Rattle.rx_layout.proofs.Bounds.{Under, under_more, minus_under, weighted_width, fits_by, IsLowTo, low_fits, difference_fits}
+use Rattle.rx_layout.proofs.Bounds.{under_more, minus_under, weighted_width, fits_by, IsLowTo, low_fits, difference_fits}
 use Rattle.rx_layout.proofs.Widths.{AreLowTo}
-use Rattle.rx_layout.proofs.FrontsFit.{IsFitting, wider, all_wider, found_low, each_wider, join_facts}
+use Rattle.rx_layout.proofs.FrontsFit.{IsFitting, found_low, each_wider, join_facts}
 use Rattle.rx_layout.proofs.TypesFit.{all_between, type_fits}
 
 each_row : (n : ℕ) (fs : List Linear) → list_all (fits_row n) fs ≡ true → list_all (fits n) (map (λ f. AtLeast f) fs) ≡ true

@@ -1,5 +1,5 @@
 -- The formulas of goals fit a system.
-use Rattle.std.proofs.Common.{◌≡◌, refl, sym, ap, ◌∙◌, ℕ, zero, suc, ◌+◌, ◌<◌, ◌≤◌, ◌^◌, arith, List, [], ◌∷◌, ◌++◌, map, length, true, ℤ, pos, negsuc, neg_ℤ, ◌*ℤ◌, ◌+ℤ◌, unsigned_abs}
+use Rattle.std.proofs.Common.{◌≡◌, refl, ◌∙◌, ℕ, ◌+◌, ◌<◌, ◌^◌, arith, List, [], ◌∷◌, ◌++◌, map, true, ℤ, pos, negsuc, neg_ℤ, ◌*ℤ◌, ◌+ℤ◌, unsigned_abs}
 use Rattle.std.proofs.lemmas.Int.{ints}
 use Rattle.std.specs.Int.{int_div_euclid}
 use Rattle.std.specs.List.{list_all, AllByRecursion}
@@ -13,7 +13,7 @@ use Rattle.rx_forms.specs.Linear.{constant, term, minus, less_one, above, unequa
 use Rattle.rx_forms.specs.Normal.{Formed}
 use Rattle.rx_forms.specs.Steps.{end_form}
 use Rattle.rx_layout.specs.Fitting.{fits, fits_row}
-use Rattle.rx_layout.specs.QueryOf.{position_formula, grid_formula, overlay_formula, cover_formula, null_formula, no_multiple, unit_rows}
+use Rattle.rx_layout.specs.QueryOf.{position_formula, grid_formula, cover_formula, null_formula, no_multiple, unit_rows}
 use Rattle.rx_layout.proofs.Gathered.{fits_at_least, fits_all, fits_any}
 use Rattle.rx_layout.proofs.Stepping.{term_length}
 use Rattle.rx_layout.proofs.Bounds.{weighted_width, less_term_under, fits_by, IsLowTo, above_fits}

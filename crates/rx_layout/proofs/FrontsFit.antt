@@ -1,5 +1,5 @@
 -- What is gathered along a path that stays within the path limit may be the rows of a system.
-use Rattle.std.proofs.Common.{◌≡◌, refl, sym, ap, subst, ◌∙◌, ℕ, zero, suc, ◌+◌, ◌<◌, ◌≤◌, ◌^◌, ◌==◌, arith, List, [], ◌∷◌, ◌++◌, length, replicate, Bool, true, false, ◌&&◌, if◌then◌else◌, ℤ, pos, negsuc, unsigned_abs, Option, Some, None}
+use Rattle.std.proofs.Common.{◌≡◌, refl, ◌∙◌, ℕ, zero, suc, ◌+◌, ◌≤◌, ◌^◌, ◌==◌, arith, List, [], ◌∷◌, ◌++◌, length, replicate, Bool, true, false, if◌then◌else◌, pos, negsuc, Option, Some, None}
 use Rattle.std.specs.Prelude.{nat_le}
 use Rattle.std.proofs.lemmas.Int.{ints}
 use Rattle.std.specs.List.{list_all, AllByRecursion}
@@ -8,14 +8,13 @@ use Rattle.rx_linear.proofs.Joining.{both, and_true}
 use Rattle.rx_types.specs.Domain.{Domain}
 use Rattle.rx_types.specs.Tree.{Tree}
 use Rattle.rx_types.specs.Narrow.{IsNarrow}
-use Rattle.rx_graph.specs.Graph.{Arrow, Graph, type_of, limit_of}
+use Rattle.rx_graph.specs.Graph.{Arrow, Graph, limit_of}
 use Rattle.rx_forms.specs.declared.linear.Linear.{Linear}
 use Rattle.rx_forms.specs.declared.linear.Form.{Form}
-use Rattle.rx_forms.specs.Linear.{constant, term, minus}
-use Rattle.rx_forms.specs.Normal.{Formed, formed_of, linear, condition, divisions_in, bits}
-use Rattle.rx_forms.specs.Divisions.{divisions}
-use Rattle.rx_forms.specs.Limits.{Met, is_kept, all_kept, is_low, met, is_within}
-use Rattle.rx_forms.specs.Steps.{Step, form_or, end_form, first_form, size_form, number_form, size_division, size_aspect, scalars_in, divisions_any, divisions_in_any, IsNarrowIfAny, IsNarrowLink}
+use Rattle.rx_forms.specs.Linear.{constant, minus}
+use Rattle.rx_forms.specs.Normal.{Formed, formed_of, condition, divisions_in, bits}
+use Rattle.rx_forms.specs.Limits.{all_kept, is_within}
+use Rattle.rx_forms.specs.Steps.{Step, form_or, end_form, first_form, size_form, number_form, size_division, size_aspect, scalars_in, divisions_any, divisions_in_any, IsNarrowIfAny}
 use Rattle.rx_forms.specs.Worked.{aspect_within}
 use Rattle.rx_forms.specs.Gathered.{met_any}
 use Rattle.rx_forms.specs.Fronts.{Front, after_end}

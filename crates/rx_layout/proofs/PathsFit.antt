@@ -1,5 +1,5 @@
 -- What is gathered along a path that stays within the path limit fits a system.
-use Rattle.std.proofs.Common.{◌≡◌, refl, sym, ap, subst, ◌∙◌, ℕ, zero, suc, ◌+◌, ◌<◌, ◌≤◌, arith, List, [], ◌∷◌, ◌++◌, length, Bool, true, false, ◌&&◌, ℤ, pos, negsuc, Option, Some, None}
+use Rattle.std.proofs.Common.{◌≡◌, refl, sym, ◌∙◌, ℕ, ◌+◌, ◌≤◌, arith, List, [], ◌∷◌, ◌++◌, true, pos, Option, Some, None}
 use Rattle.std.specs.Prelude.{nat_le}
 use Rattle.std.specs.List.{list_all, AllByRecursion}
 use Rattle.std.proofs.lemmas.List.Folds.{list_all-append}
@@ -7,18 +7,17 @@ use Rattle.rx_linear.proofs.Joining.{both, and_true}
 use Rattle.rx_types.specs.Domain.{Domain}
 use Rattle.rx_types.specs.Tree.{Tree}
 use Rattle.rx_graph.specs.Graph.{Arrow, Graph, type_of, limit_of}
-use Rattle.rx_forms.specs.declared.linear.Linear.{Linear}
 use Rattle.rx_forms.specs.Linear.{plus}
-use Rattle.rx_forms.specs.Normal.{Formed, divisions_in}
+use Rattle.rx_forms.specs.Normal.{Formed}
 use Rattle.rx_forms.specs.Divisions.{divisions}
 use Rattle.rx_forms.specs.Limits.{Met, Limited, is_kept, all_kept, is_low, met}
-use Rattle.rx_forms.specs.Steps.{Step, first_form, size_form, condition_form, first_division, size_division, size_aspect, scalars_in, scalars_on, target_field, divisions_any, divisions_in_any, IsNarrowIfAny, IsNarrowLink, next_division, division_after, formed_at, form_or, end_form}
+use Rattle.rx_forms.specs.Steps.{Step, first_form, size_form, condition_form, first_division, size_division, size_aspect, scalars_in, scalars_on, target_field, divisions_any, divisions_in_any, IsNarrowIfAny, IsNarrowLink, next_division, division_after, formed_at, end_form}
 use Rattle.rx_forms.specs.Gathered.{met_any, met_at}
 use Rattle.rx_forms.specs.Fronts.{Front, step_at, after_link, after_links, link_within, links_within}
 use Rattle.rx_forms.proofs.Gathering.{division_above}
-use Rattle.rx_layout.specs.Fitting.{fits, fits_row}
+use Rattle.rx_layout.specs.Fitting.{fits_row}
 use Rattle.rx_layout.proofs.Targets.{narrow_aspect}
-use Rattle.rx_layout.proofs.Bounds.{IsLowTo, low_to, weighted_width}
+use Rattle.rx_layout.proofs.Bounds.{low_to, weighted_width}
 use Rattle.rx_layout.proofs.Widths.{AreLowTo}
 use Rattle.rx_layout.proofs.FactsFit.{condition_fits}
 use Rattle.rx_layout.proofs.RowsFit.{divisions_fit}

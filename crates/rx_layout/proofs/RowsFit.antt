@@ -1,5 +1,5 @@
 -- The rows of divisions that stay within the path limit may be the rows of a system.
-use Rattle.std.proofs.Common.{◌≡◌, refl, sym, ap, subst, ◌∙◌, ℕ, zero, suc, ◌+◌, ◌/◌, ◌<◌, ◌≤◌, ◌^◌, arith, List, [], ◌∷◌, ◌++◌, length, replicate, Bool, true, false, ◌&&◌, if◌then◌else◌, ℤ, pos, negsuc, neg_ℤ, ◌-ℤ◌, ◌+ℤ◌, ◌*ℤ◌, ◌<ℤ◌, unsigned_abs, Option, Some, None}
+use Rattle.std.proofs.Common.{◌≡◌, refl, sym, ap, ◌∙◌, ℕ, zero, suc, ◌+◌, ◌<◌, ◌≤◌, ◌^◌, arith, List, [], ◌∷◌, ◌++◌, replicate, Bool, true, false, if◌then◌else◌, ℤ, pos, negsuc, neg_ℤ, ◌-ℤ◌, ◌+ℤ◌, ◌*ℤ◌, ◌<ℤ◌, unsigned_abs, Option, Some, None}
 use Rattle.std.proofs.lemmas.Int.{ints}
 use native.Mathlib.Nat.{div-le_self}
 use Rattle.std.specs.Int.{int_div_euclid}
@@ -17,7 +17,7 @@ use Rattle.rx_forms.specs.declared.linear.Linear.{Linear}
 use Rattle.rx_forms.specs.Linear.{term, minus}
 use Rattle.rx_forms.specs.Normal.{Formed, formed_of, linear, divisions_in, truth_in}
 use Rattle.rx_forms.specs.Divisions.{division_rows, divisions}
-use Rattle.rx_forms.specs.Limits.{Met, Part, is_kept, all_kept, is_low, met, met_in_both, of_sides, differences, divided}
+use Rattle.rx_forms.specs.Limits.{Met, Part, is_kept, all_kept, is_low, met, of_sides, differences, divided}
 use Rattle.rx_layout.specs.Fitting.{fits_row}
 use Rattle.rx_layout.proofs.Stepping.{term_length}
 use Rattle.rx_layout.proofs.Bounds.{Under, is_below, IsLowTo, low_to, fits_by, weighted_width, less_term_under, term_less_under}

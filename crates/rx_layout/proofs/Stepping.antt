@@ -1,11 +1,9 @@
 -- The facts of fields that were gathered are those of the steps of the path.
-use Rattle.std.proofs.Common.{◌≡◌, refl, sym, ap, ◌∙◌, subst, ℕ, zero, suc, ◌+◌, arith, List, [], ◌∷◌, ◌++◌, map, length, replicate, pos, ℤ, Bool, true, false, append_assoc, append-nil, Option, Some, None, slice_get}
-use Rattle.std.specs.List.{flat_map}
+use Rattle.std.proofs.Common.{◌≡◌, refl, sym, ap, ◌∙◌, ℕ, zero, suc, ◌+◌, arith, List, [], ◌∷◌, ◌++◌, map, length, replicate, pos, ℤ, Bool, append_assoc, append-nil, Option, Some, None, slice_get}
 use Rattle.std.proofs.lemmas.List.{length-append}
 use Rattle.rx_types.specs.Domain.{Domain}
-use Rattle.rx_graph.specs.Graph.{Arrow, Graph, type_of, overlay_of, limit_of}
+use Rattle.rx_graph.specs.Graph.{Arrow, Graph, type_of, overlay_of}
 use Rattle.rx_forms.specs.declared.linear.Linear.{Linear}
-use Rattle.rx_forms.specs.declared.linear.Form.{Form, All}
 use Rattle.rx_forms.specs.declared.field.FieldForms.{FieldForms}
 use Rattle.rx_forms.specs.Linear.{term, constant, minus}
 use Rattle.rx_forms.specs.Normal.{Formed, formed_of, bits}

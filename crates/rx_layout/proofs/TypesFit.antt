@@ -1,5 +1,5 @@
 -- The facts of scalar types fit a system.
-use Rattle.std.proofs.Common.{◌≡◌, refl, sym, ap, subst, ◌∙◌, ℕ, zero, suc, ◌+◌, ◌-◌, ◌<◌, ◌≤◌, ◌^◌, arith, List, [], ◌∷◌, ◌++◌, map, Bool, true, false, ◌&&◌, ℤ, pos, negsuc, neg_ℤ, unsigned_abs}
+use Rattle.std.proofs.Common.{◌≡◌, refl, ◌∙◌, ℕ, ◌-◌, ◌<◌, ◌≤◌, ◌^◌, arith, List, [], ◌∷◌, ◌++◌, map, Bool, true, false, pos, negsuc, neg_ℤ}
 use Rattle.std.proofs.lemmas.Int.{ints}
 use Rattle.std.proofs.Math.Nat.{pow-le-pow_right}
 use Rattle.std.specs.List.{list_all, AllByRecursion}
@@ -7,7 +7,7 @@ use Rattle.std.proofs.lemmas.List.Folds.{list_all-append}
 use Rattle.rx_linear.proofs.Joining.{and_true}
 use Rattle.rx_types.specs.declared.scalar.Literal.{Literal}
 use Rattle.rx_types.specs.Domain.{Domain, Integer, Enumeration, IsProper, AreLiterals, numbers_of}
-use Rattle.rx_forms.specs.declared.linear.Form.{Form, AtLeast, All, Any}
+use Rattle.rx_forms.specs.declared.linear.Form.{All}
 use Rattle.rx_forms.specs.Linear.{term}
 use Rattle.rx_layout.specs.Fitting.{fits}
 use Rattle.rx_layout.specs.Types.{between, placed_in, ascending, last_of, has_gaps, one_of_numbers, numbers_form, literals_form, type_form}

@@ -1,14 +1,14 @@
 -- How many variables the sums of expressions have.
-use Rattle.std.proofs.Common.{◌≡◌, refl, sym, ap, ◌∙◌, ℕ, zero, suc, ◌+◌, ◌≤◌, arith, List, [], ◌∷◌, length, Bool, true, false, if◌then◌else◌, ℤ, pos, negsuc}
+use Rattle.std.proofs.Common.{ℕ, ◌+◌, ◌≤◌, arith, List, [], length, Bool, true, false, if◌then◌else◌, ℤ, pos, negsuc}
 use Rattle.rx_types.specs.declared.expr.Operator.TheVariants as op
 use Rattle.rx_types.specs.Tree.{Tree, Number, Truth, Field, First, Last, Size, Total, Neg, Not, Binary}
 use Rattle.rx_types.specs.Static.{is_static, static_value}
 use Rattle.rx_forms.specs.declared.linear.Linear.{Linear}
-use Rattle.rx_forms.specs.Linear.{constant, times, term}
+use Rattle.rx_forms.specs.Linear.{times, term}
 use Rattle.rx_forms.specs.Normal.{Formed, formed_of, linear, divisions_in}
 pub use Rattle.rx_layout.specs.Fitting.{AreLowTo}
 use Rattle.rx_layout.proofs.Stepping.{term_length}
-use Rattle.rx_layout.proofs.Bounds.{weighted_width, IsLowTo}
+use Rattle.rx_layout.proofs.Bounds.{weighted_width}
 
 by_static : (s : Bool) (f g : Linear) (j k : ℤ) (n x y : ℕ) → length f.coefficients ≤ n + x → length g.coefficients ≤ n + y → length (if s then times k g else times j f).coefficients ≤ n + (if s then y else x)
 by_static true f g j k n x y h e = weighted_width g.coefficients [] k (pos 1) (n + y) e (omega arith)

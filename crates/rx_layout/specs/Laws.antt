@@ -7,7 +7,7 @@
 --   QueriesAreBounded  when the rows of a query are joined, each variable has one that bounds it from below and one that bounds it
 --                      from above
 --   ListsGoals         the goals of a message are those that are listed
---   GoalsMakeSound     where all goals hold, all checks do
+--   GoalsAreChecks     all goals hold exactly where all checks do
 use Rattle.std.specs.Prelude.{◌≡◌, ◌↔◌, ◌<◌, ℕ, List, [], ◌∷◌, ℤ, pos, negsuc, Bool, true, ◌&&◌, length, take}
 use Rattle.std.specs.List.{list_any}
 use Rattle.rx_types.specs.Domain.{Domain}
@@ -62,5 +62,5 @@ module _ (domains : List Domain) (m : Graph) where
   abbrev pub ListsGoals : Type 0
   ListsGoals = (goal : Goal) → IsGoal domains m goal ↔ Among goal (all_goals domains m)
 
-  abbrev pub GoalsMakeSound : Type 0
-  GoalsMakeSound = AllGoalsHold domains m → AllHold domains m
+  abbrev pub GoalsAreChecks : Type 0
+  GoalsAreChecks = AllGoalsHold domains m ↔ AllHold domains m

@@ -4,7 +4,7 @@ ghost use Rattle.std.specs.Prelude.{◌≡◌, Some, slice_get};
 ghost use Rattle.rx_types.specs.Domain.{Domain, boolean};
 ghost use Rattle.rx_graph.specs.Elaborated.{IsElaborated};
 ghost use Rattle.rx_graph.specs.Graph.{domains_of, graph_of};
-ghost use Rattle.rx_layout.specs.Laws.{PointsMeetGoals, GoalsHavePoints, QueriesAreEven, QueriesAreBounded, ListsGoals, GoalsMakeSound};
+ghost use Rattle.rx_layout.specs.Laws.{PointsMeetGoals, GoalsHavePoints, QueriesAreEven, QueriesAreBounded, ListsGoals, GoalsAreChecks};
 
 use rx_graph::{Message, Spec};
 
@@ -40,7 +40,7 @@ pub fn goals_are_listed(spec: &Spec, message: &Message)
     ensures { ListsGoals (domains_of spec.now) (graph_of message.now) }
 {}
 
-/// Where all goals of a message hold, all its checks do.
-pub fn goals_make_sound(spec: &Spec, message: &Message)
-    ensures { GoalsMakeSound (domains_of spec.now) (graph_of message.now) }
+/// All goals of a message hold exactly where all its checks do.
+pub fn goals_are_checks(spec: &Spec, message: &Message)
+    ensures { GoalsAreChecks (domains_of spec.now) (graph_of message.now) }
 {}

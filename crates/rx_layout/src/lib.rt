@@ -16,7 +16,7 @@ pub use checklist::goals;
 pub use fault::NoMemory;
 pub use goal::Goal;
 pub use laws::{
-    goals_are_listed, goals_have_points, goals_make_sound, points_meet_goals, queries_are_bounded,
+    goals_are_checks, goals_are_listed, goals_have_points, points_meet_goals, queries_are_bounded,
     queries_are_even,
 };
 pub use parts::{Parts, query_of_form};

@@ -1,22 +1,12 @@
-use Rattle.std.proofs.Common.{◌≡◌, ℕ, refl, sym, ap, ◌∙◌, subst, ◌≤◌, ◌+◌, arith, List, [], ◌∷◌, true, IfOk, OnOk, Option, Some, None, slice_get}
-use Rattle.std.proofs.lemmas.Result.{IfOk-from_err, on_ok_weaker}
+use Rattle.std.proofs.Common.{◌≡◌, sym, ap, ◌∙◌}
 use Rattle.rx_graph.specs.declared.message.Node.{Node}
-use Rattle.rx_graph.specs.Graph.{Arrow, graph_of, arrow_of, type_of, overlay_of}
-use Rattle.rx_forms.specs.declared.linear.Linear.{Linear}
-use Rattle.rx_forms.specs.declared.field.FieldForms.{FieldForms}
-use Rattle.rx_forms.specs.Steps.{size_aspect, first_form, size_form, end_form, target_field}
-use Rattle.rx_forms.specs.Normal.{Formed, formed_of}
-use Rattle.rx_forms.specs.Code.{formed_all, domains_in, limits_in}
-use Rattle.rx_forms.specs.Fronts.{Front, front_of, after_end}
-use Rattle.rx_layout.specs.Made.{after_any, after_target, formula_behind, units_behind, behind, asked_link}
-use Rattle.rx_layout.specs.QueryOf.{goal_step, position_formula, grid_formula, overlay_formula, cover_formula, null_formula, no_multiple, unit_rows, cover_asked, cover_to, overlay_on, with_link, taken_asked, link_numbered, asked_by}
-use Rattle.rx_layout.specs.declared.checklist.LinkCheck.{LinkCheck}
-use Rattle.rx_layout.specs.declared.goal.Goal.{Goal}
-use Rattle.rx_layout.specs.declared.checklist.LinkCheck.TheVariants as check
+use Rattle.rx_graph.specs.Graph.{graph_of, arrow_of}
+use Rattle.rx_forms.specs.Code.{domains_in}
+use Rattle.rx_forms.specs.Fronts.{front_of}
+use Rattle.rx_layout.specs.Made.{behind}
+use Rattle.rx_layout.specs.QueryOf.{cover_to}
 use Rattle.rx_graph.specs.declared.message.Node.TheVariants.{Start, At, Null}
-use Rattle.rx_layout.specs.Goals.{IsGoal}
 use Rattle.rx_layout.proofs.Gathered.{if_ok}
-use Rattle.rx_layout.proofs.Behind
 use Rattle.rx_layout.proofs.asked.ask_cover_to.Goals as goal
 
 pub ask_taken-requires : goal.ask_taken-requires

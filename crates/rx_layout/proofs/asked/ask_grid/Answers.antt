@@ -1,27 +1,16 @@
-use Rattle.std.proofs.Common.{◌≡◌, ℕ, refl, sym, ap, ◌∙◌, subst, ◌≤◌, ◌+◌, arith, List, [], ◌∷◌, true, IfOk, OnOk, Option, Some, None}
-use Rattle.std.proofs.lemmas.Result.{IfOk-from_err, on_ok_weaker}
-use Rattle.rx_types.specs.Narrow.{places_in_bits}
-use Rattle.rx_graph.specs.Graph.{graph_of, arrow_of, type_of}
-use Rattle.rx_forms.specs.declared.linear.Linear.{Linear}
-use Rattle.rx_forms.specs.declared.field.FieldForms.{FieldForms}
-use Rattle.rx_types.specs.declared.interval.Interval.{Interval}
+use Rattle.std.proofs.Common.{◌≡◌, ℕ, sym, ap, ◌∙◌, subst, ◌≤◌, ◌+◌, arith}
+use Rattle.std.proofs.lemmas.Result.{IfOk-from_err}
+use Rattle.rx_graph.specs.Graph.{graph_of, arrow_of}
 use Rattle.rx_forms.specs.declared.linear.Form.{Form}
-use Rattle.rx_forms.specs.Steps.{size_aspect, first_form, size_form, end_form, target_field}
-use Rattle.rx_forms.specs.Normal.{Formed, formed_of}
-use Rattle.rx_forms.specs.Code.{formed_all, domains_in, limits_in}
-use Rattle.rx_forms.specs.Fronts.{Front, front_of, after_end}
-use Rattle.rx_layout.specs.Made.{grid_units, after_any, after_target, formula_behind, units_behind, behind}
-use Rattle.rx_layout.specs.QueryOf.{goal_step, position_formula, grid_formula, overlay_formula, cover_formula, null_formula, no_multiple, unit_rows, interval_or, rest_interval}
+use Rattle.rx_forms.specs.Code.{domains_in}
+use Rattle.rx_forms.specs.Fronts.{Front, front_of}
+use Rattle.rx_layout.specs.Made.{grid_units, units_behind}
 use Rattle.rx_layout.proofs.Gathered.{if_ok}
 use Rattle.rx_layout.proofs.Behind
-use Rattle.std.proofs.Common.{length}
 use Rattle.rx_forms.proofs.Reaching.{both_ok}
-use Rattle.rx_forms.specs.Worked.{size_otherwise}
-use Rattle.rx_layout.specs.Fitting.{fits, IsLowTo, IsFitting}
-use Rattle.rx_layout.proofs.FrontsFit.{wider, each_wider, end_low}
+use Rattle.rx_layout.specs.Fitting.{fits}
 use Rattle.rx_layout.proofs.FormulasFit
 use Rattle.rx_layout.proofs.AskedFit
-use Rattle.rx_layout.proofs.Targets.{narrow_aspect}
 use Rattle.rx_layout.proofs.asked.ask_grid.Goals as goal
 
 pub ask_target-requires : goal.ask_target-requires

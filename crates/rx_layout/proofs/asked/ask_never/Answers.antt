@@ -1,25 +1,14 @@
-use Rattle.std.proofs.Common.{◌≡◌, ℕ, refl, sym, ap, ◌∙◌, subst, ◌≤◌, ◌+◌, arith, List, [], ◌∷◌, true, IfOk, OnOk, Option, Some, None}
-use Rattle.std.proofs.lemmas.Result.{IfOk-from_err, on_ok_weaker}
-use Rattle.rx_graph.specs.Graph.{graph_of, arrow_of, type_of}
-use Rattle.rx_forms.specs.declared.linear.Linear.{Linear}
-use Rattle.rx_forms.specs.declared.field.FieldForms.{FieldForms}
+use Rattle.std.proofs.Common.{◌≡◌, ℕ, sym, ap, ◌∙◌, subst, ◌≤◌, arith, List, [], ◌∷◌}
+use Rattle.std.proofs.lemmas.Result.{IfOk-from_err}
+use Rattle.rx_graph.specs.Graph.{graph_of, arrow_of}
 use Rattle.rx_forms.specs.declared.linear.Form.{Form, Any}
-use Rattle.rx_forms.specs.Steps.{size_aspect, first_form, size_form, end_form, target_field}
-use Rattle.rx_forms.specs.Normal.{Formed, formed_of}
-use Rattle.rx_forms.specs.Code.{formed_all, domains_in, limits_in}
-use Rattle.rx_forms.specs.Fronts.{Front, front_of, after_end}
-use Rattle.rx_layout.specs.Made.{after_any, after_target, formula_behind, units_behind, behind}
-use Rattle.rx_layout.specs.QueryOf.{goal_step, position_formula, grid_formula, overlay_formula, cover_formula, null_formula, no_multiple, unit_rows}
+use Rattle.rx_forms.specs.Code.{domains_in}
+use Rattle.rx_forms.specs.Fronts.{Front, front_of}
+use Rattle.rx_layout.specs.Made.{formula_behind}
 use Rattle.rx_layout.proofs.Gathered.{if_ok, fits_any}
 use Rattle.rx_layout.proofs.Behind
-use Rattle.std.proofs.Common.{length}
-use Rattle.rx_forms.proofs.Reaching.{both_ok}
-use Rattle.rx_forms.specs.Worked.{size_otherwise}
-use Rattle.rx_layout.specs.Fitting.{fits, IsLowTo, IsFitting}
-use Rattle.rx_layout.proofs.FrontsFit.{found_low, wider, each_wider, end_low}
-use Rattle.rx_layout.proofs.FormulasFit
+use Rattle.rx_layout.specs.Fitting.{fits}
 use Rattle.rx_layout.proofs.AskedFit
-use Rattle.rx_layout.proofs.Targets.{narrow_aspect}
 use Rattle.rx_layout.proofs.asked.ask_never.Goals as goal
 
 pub ask_condition-requires : goal.ask_condition-requires

@@ -1,7 +1,7 @@
 use Rattle.std.proofs.Common.{◌≡◌, ◌++◌, drop, map}
 use Rattle.rx_graph.specs.Graph.{graph_of}
 use Rattle.rx_forms.specs.Code.{domains_in}
-use Rattle.rx_layout.specs.Made.{placed, typed_field}
+use Rattle.rx_layout.specs.Made.{typed_field}
 use Rattle.rx_layout.proofs.fields.add_types.Given as goal
 
 abbrev pub invariant-loop-field : goal.invariant-loop-field

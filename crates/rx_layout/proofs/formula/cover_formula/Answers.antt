@@ -1,5 +1,5 @@
-use Rattle.std.proofs.Common.{◌≡◌, ap}
-use Rattle.rx_forms.specs.declared.linear.Form.{Form, All}
+use Rattle.std.proofs.Common.{ap}
+use Rattle.rx_forms.specs.declared.linear.Form.{All}
 use Rattle.rx_layout.proofs.Behind.{cover_many}
 use Rattle.rx_layout.proofs.formula.cover_formula.Goals as goal
 

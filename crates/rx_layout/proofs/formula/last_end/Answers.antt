@@ -1,4 +1,4 @@
-use Rattle.std.proofs.Common.{◌≡◌, sym, ◌∙◌}
+use Rattle.std.proofs.Common.{sym, ◌∙◌}
 use Rattle.rx_forms.proofs.Aspects.{end_of_last}
 use Rattle.rx_layout.proofs.formula.last_end.Goals as goal
 
