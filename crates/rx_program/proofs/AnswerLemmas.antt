@@ -1,5 +1,6 @@
 -- From what was found to the answer, over plain texts and input.
-use Rattle.std.proofs.Common.{◌≡◌, ℕ, ◌∷◌, [], List, Option, Some, None, IfSome, Result, Ok, Err, IfOk, subst, sym, refl}
+use Rattle.std.proofs.Common.{◌≡◌, ℕ, ◌∷◌, [], List, Option, Some, None, IfSome, Result, Ok, Err, IfOk, ap, subst, sym, refl}
+use Rattle.rx_io.specs.Faults.{HasRisen}
 use Rattle.rx_io.specs.Shelf.{Texts}
 use Rattle.rx_types.specs.Domain.{Domain}
 use Rattle.rx_graph.specs.declared.spec.Spec.{Spec}
@@ -25,7 +26,7 @@ use Rattle.rx_program.specs.Stop.{Stops}
 use Rattle.rx_program.specs.Input.{IsReadAs, IsWrittenAs}
 use Rattle.rx_program.specs.Request.{Request, Means, Finds, Serves, IsTooLong, AnswersTo, request_of}
 use Rattle.rx_program.specs.Answers.{Asks, Answers}
-use Rattle.rx_program.specs.Outcome.{Prints, Outcome}
+use Rattle.rx_program.specs.Outcome.{FaultCounts, IsCaused, Prints, Outcome}
 use Rattle.rx_program.proofs.OperandLemmas.{domains_same}
 
 -- ---- what packages answer
@@ -157,26 +158,51 @@ answered None input ask p (Ok a) closure answers = tt
 answered (Some texts) None ask p (Ok a) closure answers = tt
 answered (Some texts) (Some left) ask p (Ok a) closure answers = λ words is. answers_in words texts left (request_of (ask_of ask) p) a (record { words_are = is; closure = closure }) answers
 
-outcome_in : (words : List (List ℕ)) (texts : Texts) (left : List ℕ) (a : Answer) (status : Status) (written : List ℕ) → Answers words texts left a → Prints a status written → Outcome words texts left status written
-outcome_in words texts left a Done written answers prints = (a, answers, prints)
-outcome_in words texts left a NotAccepted written answers prints = (a, answers, prints)
-outcome_in words texts left a Words written answers prints = (a, answers, prints)
-outcome_in words texts left a Specification written answers prints = (a, answers, prints)
-outcome_in words texts left a Undecided written answers prints = (a, answers, prints)
-outcome_in words texts left a InputRefused written answers prints = (a, answers, prints)
-outcome_in words texts left a SourceStatus written answers prints = (a, answers, prints)
-outcome_in words texts left a ShelfStatus written answers prints = (a, answers, prints)
-outcome_in words texts left a SinkFault written answers prints = (a, answers, prints)
-outcome_in words texts left a Limit written answers prints = (a, answers, prints)
-outcome_in words texts left a NoMemory written answers prints = prints
+-- a fault is the answer only for its cause
+caused : (f : FaultCounts) (a : Answer) → (a ≡ answer.ShelfFault → HasRisen f.shelf_before f.shelf_after) → (a ≡ answer.SourceFault → HasRisen f.source_before f.source_after) → IsCaused f a
+caused f answer.Usage by_shelf by_source = tt
+caused f answer.ShelfFault by_shelf by_source = by_shelf refl
+caused f (answer.NoPackage name) by_shelf by_source = tt
+caused f (answer.TextLimit file) by_shelf by_source = tt
+caused f (answer.Refused file refusal) by_shelf by_source = tt
+caused f answer.PackageLimit by_shelf by_source = tt
+caused f (answer.Unserved file unserved) by_shelf by_source = tt
+caused f (answer.Broken file breach) by_shelf by_source = tt
+caused f (answer.NoMessage name message) by_shelf by_source = tt
+caused f (answer.Checked reported) by_shelf by_source = tt
+caused f (answer.Rejected reported) by_shelf by_source = tt
+caused f answer.SourceFault by_shelf by_source = by_source refl
+caused f answer.InputLimit by_shelf by_source = tt
+caused f (answer.Input decoding) by_shelf by_source = tt
+caused f (answer.Output encoding) by_shelf by_source = tt
+
+outcome_in : (words : List (List ℕ)) (texts : Texts) (left : List ℕ) (f : FaultCounts) (a : Answer) (status : Status) (written : List ℕ) → Answers words texts left a → IsCaused f a → Prints a status written → Outcome words texts left f status written
+outcome_in words texts left f a Done written answers cause prints = (a, answers, cause, prints)
+outcome_in words texts left f a NotAccepted written answers cause prints = (a, answers, cause, prints)
+outcome_in words texts left f a Words written answers cause prints = (a, answers, cause, prints)
+outcome_in words texts left f a Specification written answers cause prints = (a, answers, cause, prints)
+outcome_in words texts left f a Undecided written answers cause prints = (a, answers, cause, prints)
+outcome_in words texts left f a InputRefused written answers cause prints = (a, answers, cause, prints)
+outcome_in words texts left f a SourceStatus written answers cause prints = (a, answers, cause, prints)
+outcome_in words texts left f a ShelfStatus written answers cause prints = (a, answers, cause, prints)
+outcome_in words texts left f a SinkFault written answers cause prints = (a, answers, cause, prints)
+outcome_in words texts left f a Limit written answers cause prints = (a, answers, cause, prints)
+outcome_in words texts left f a NoMemory written answers cause prints = prints
+
+-- the result is this answer
+abbrev pub Gives : (E : Type 0) → Answer → Answer → Type 0
+Gives E a b = (let r : Result Answer E = Ok a in r ≡ Ok b)
 
 -- what was written of the answer is the outcome
-pub outcome_of : (told : Option Texts) (input : Option (List ℕ)) (words : List (List ℕ)) (a : Answer) (status : Status) (W : List ℕ → Type 0)
+pub outcome_of : (E : Type 0) (told : Option Texts) (input : Option (List ℕ)) (words : List (List ℕ)) (f : FaultCounts) (a : Answer) (status : Status) (W : List ℕ → Type 0)
+    → (Gives E a answer.ShelfFault → HasRisen f.shelf_before f.shelf_after) → (Gives E a answer.SourceFault → HasRisen f.source_before f.source_after)
     → IfSome told (λ texts. IfSome input (λ left. Answers words texts left a)) → ((written : List ℕ) × W written × Prints a status written)
-    → IfSome told (λ texts. IfSome input (λ left. (written : List ℕ) × W written × Outcome words texts left status written))
-outcome_of None input words a status W answers prints = tt
-outcome_of (Some texts) None words a status W answers prints = tt
-outcome_of (Some texts) (Some left) words a status W answers prints = (prints.0, prints.1, outcome_in words texts left a status prints.0 answers prints.2)
+    → IfSome told (λ texts. IfSome input (λ left. (written : List ℕ) × W written × Outcome words texts left f status written))
+outcome_of E None input words f a status W by_shelf by_source answers prints = tt
+outcome_of E (Some texts) None words f a status W by_shelf by_source answers prints = tt
+outcome_of E (Some texts) (Some left) words f a status W by_shelf by_source answers prints =
+    let cause = caused f a (λ e. by_shelf (ap Ok e)) (λ e. by_source (ap Ok e)) in
+    (prints.0, prints.1, outcome_in words texts left f a status prints.0 answers cause prints.2)
 
 -- the answer where the walk ends, over what the shelf tells
 pub stop_answered : {E : Type 0} (told : Option Texts) (input : Option (List ℕ)) (ask : code.Ask) (stop : Stop) (r : Result Answer E) → IfSome told (λ texts. Stops texts ask.name stop)

@@ -4,6 +4,7 @@ pub mod NameLemmas
 pub mod OperandLemmas
 pub mod ReadLemmas
 pub mod RequestLemmas
+pub mod Soundness
 pub mod StageLemmas
 pub mod WordLemmas
 pub mod OneText

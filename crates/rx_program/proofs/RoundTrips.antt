@@ -25,7 +25,7 @@ use Rattle.rx_program.specs.Words.{Does, Ask, Checks, Decodes, Encodes, message_
 use Rattle.rx_program.specs.Closure.{IsClosure}
 use Rattle.rx_program.specs.Request.{Request, Finds, Serves}
 use Rattle.rx_program.specs.Answers.{Asks, Answers}
-use Rattle.rx_program.specs.Outcome.{Outcome, IsText, line, status_of}
+use Rattle.rx_program.specs.Outcome.{FaultCounts, Outcome, IsText, line, status_of}
 use Rattle.rx_program.specs.RoundTrips.{AskThat, AskBoth, IsJsonOfText, EncodedIsDecoded, DecodedIsEncoded}
 use Rattle.rx_program.specs.declared.status.Status.TheVariants.{Done, NotAccepted, Words, Specification, Undecided, InputRefused, Limit}
 use Rattle.rx_program.specs.declared.status.Status.TheVariants.{SourceFault as SourceStatus, ShelfFault as ShelfStatus}
@@ -124,8 +124,8 @@ module _ (words : List (List ℕ)) (texts : Texts) (input written : List ℕ) wh
   did (Output (encoding.Unsatisfied name reason)) is status text = absurd (let no : Done ≡ InputRefused = status in cc)
   did (Output (encoding.Unused name)) is status text = absurd (let no : Done ≡ InputRefused = status in cc)
 
-  did_of : Outcome words texts input Done written → Did words texts input written
-  did_of o = did o.0 o.1 o.2.0 o.2.1
+  did_of : (f : FaultCounts) → Outcome words texts input f Done written → Did words texts input written
+  did_of f o = did o.0 o.1 o.3.0 o.3.1
 
 some_same : (a b : Ask) → Some a ≡ Some b → a ≡ b
 some_same a b e = cc
@@ -201,26 +201,26 @@ module _ (one_tree : OneTree) (one_meaning : OneMeaning) (texts : Texts) where
     json_same bytes text j = subst (λ (s : Specified). IsJson (domains_in s) v.graph bytes text) specs_same (subst (λ (g : Graph). IsJson (domains_in w.spec) g bytes text) graphs_same j)
 
   module _ (encode decode : List (List ℕ)) (both : AskBoth encode decode) where
-    encoded_and_decoded : (text bytes printed : List ℕ) → Outcome encode texts text Done bytes → Outcome decode texts bytes Done printed → IsJsonOfText encode texts text printed
-    encoded_and_decoded text bytes printed one two =
-        let x : HasEncoded encode texts both.name both.message text bytes = has_encoded encode texts both.name both.message text bytes both.encodes (did_of encode texts text bytes one) in
-        let y : HasDecoded decode texts both.name both.message bytes printed = has_decoded decode texts both.name both.message bytes printed both.decodes (did_of decode texts bytes printed two) in
+    encoded_and_decoded : (text bytes printed : List ℕ) (f g : FaultCounts) → Outcome encode texts text f Done bytes → Outcome decode texts bytes g Done printed → IsJsonOfText encode texts text printed
+    encoded_and_decoded text bytes printed f g one two =
+        let x : HasEncoded encode texts both.name both.message text bytes = has_encoded encode texts both.name both.message text bytes both.encodes (did_of encode texts text bytes f one) in
+        let y : HasDecoded decode texts both.name both.message bytes printed = has_decoded decode texts both.name both.message bytes printed both.decodes (did_of decode texts bytes printed g two) in
         let v = x.by in
         let j = json_same encode decode both.name both.message v y.by bytes y.json y.is in
         let p = printed_of_encoded (domains_in v.spec) v.graph v.serves.sound v.serves.named text bytes y.json x.answer x.is x.wrote j in
         record { request = v.request; asks = v.asks; spec = v.spec; graph = v.graph; serves = v.serves; values = p.values; valued = p.valued; printed_is = y.wrote ∙ ap line p.printed_is }
 
-    decoded_and_encoded : (bytes printed written : List ℕ) → AreBytes bytes → Outcome decode texts bytes Done printed → Outcome encode texts printed Done written → written ≡ bytes
-    decoded_and_encoded bytes printed written are one two =
-        let x : HasEncoded encode texts both.name both.message printed written = has_encoded encode texts both.name both.message printed written both.encodes (did_of encode texts printed written two) in
-        let y : HasDecoded decode texts both.name both.message bytes printed = has_decoded decode texts both.name both.message bytes printed both.decodes (did_of decode texts bytes printed one) in
+    decoded_and_encoded : (bytes printed written : List ℕ) (f g : FaultCounts) → AreBytes bytes → Outcome decode texts bytes f Done printed → Outcome encode texts printed g Done written → written ≡ bytes
+    decoded_and_encoded bytes printed written f g are one two =
+        let x : HasEncoded encode texts both.name both.message printed written = has_encoded encode texts both.name both.message printed written both.encodes (did_of encode texts printed written g two) in
+        let y : HasDecoded decode texts both.name both.message bytes printed = has_decoded decode texts both.name both.message bytes printed both.decodes (did_of decode texts bytes printed f one) in
         let v = x.by in
         let j = json_same encode decode both.name both.message v y.by bytes y.json y.is in
         let of_line = subst (λ (t : List ℕ). IsEncoded (domains_in v.spec) v.graph t x.answer) y.wrote x.is in
         encoded_of_printed (domains_in v.spec) v.graph v.serves.sound v.serves.named bytes y.json written x.answer are j of_line x.wrote
 
 pub encoded_is_decoded : OneTree → OneMeaning → EncodedIsDecoded
-encoded_is_decoded one_tree one_meaning encode decode texts text bytes printed both = encoded_and_decoded one_tree one_meaning texts encode decode both text bytes printed
+encoded_is_decoded one_tree one_meaning encode decode texts text bytes printed f g both = encoded_and_decoded one_tree one_meaning texts encode decode both text bytes printed f g
 
 pub decoded_is_encoded : OneTree → OneMeaning → DecodedIsEncoded
-decoded_is_encoded one_tree one_meaning encode decode texts bytes printed written both = decoded_and_encoded one_tree one_meaning texts encode decode both bytes printed written
+decoded_is_encoded one_tree one_meaning encode decode texts bytes printed written f g both = decoded_and_encoded one_tree one_meaning texts encode decode both bytes printed written f g

@@ -14,7 +14,7 @@ is_fault ShelfFault = true
 is_fault SourceFault = true
 is_fault _ = false
 
--- the same verdicts: the steps of proofs, lengths and numbers may be others
+-- the same counts: the steps of proofs, lengths and numbers may be others
 pub record IsSameReport (one other : Reported) : Type 0 where
   pub passed : one.passed ≡ other.passed
   pub failed : one.failed ≡ other.failed

@@ -4,6 +4,7 @@ pub mod Names
 pub mod Refusals
 pub mod Closure
 pub mod Stop
+pub mod Soundness
 pub mod Stage
 pub mod Operand
 pub mod Input

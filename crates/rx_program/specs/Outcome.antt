@@ -1,6 +1,7 @@
 -- How an answer shows: the status, and the bytes that are written.
 use Rattle.std.specs.Prelude.{◌≡◌, ◌==◌, ℕ, List, [], ◌∷◌, ◌++◌, Option, Some, None, take, codes, if◌then◌else◌}
 use Rattle.std.specs.Str.{str_to_ascii_lowercase}
+use Rattle.rx_io.specs.Faults.{HasRisen}
 use Rattle.rx_io.specs.Shelf.{Texts}
 use Rattle.rx_program.specs.declared.status.Status.{Status}
 use Rattle.rx_program.specs.declared.status.Status.TheVariants.{Done, NotAccepted, Words, Specification, Undecided, InputRefused, SinkFault, Limit, NoMemory}
@@ -153,10 +154,23 @@ Prints answer SinkFault written = IsPartOf answer written
 Prints answer NoMemory written = written ≡ []
 Prints answer status written = (status ≡ status_of answer) × IsText answer written
 
--- a command with these words, texts and input may end with this status and have written this
-abbrev pub Outcome : List (List ℕ) → Texts → List ℕ → Status → List ℕ → Type 0
-Outcome words texts input NoMemory written = written ≡ []
-Outcome words texts input status written = (answer : Answer) × Answers words texts input answer × Prints answer status written
+-- how many faults shelf and source had counted before a command, and have behind it
+pub record FaultCounts : Type 0 where
+  pub shelf_before : ℕ
+  pub shelf_after : ℕ
+  pub source_before : ℕ
+  pub source_after : ℕ
+
+-- a fault of the shelf or of the source is the answer only where that object counted one
+abbrev pub IsCaused : FaultCounts → Answer → Type 0
+IsCaused faults ShelfFault = HasRisen faults.shelf_before faults.shelf_after
+IsCaused faults SourceFault = HasRisen faults.source_before faults.source_after
+IsCaused faults answer = Unit {0}
+
+-- a command with these words, texts and input, and these faults, may end with this status and have written this
+abbrev pub Outcome : List (List ℕ) → Texts → List ℕ → FaultCounts → Status → List ℕ → Type 0
+Outcome words texts input faults NoMemory written = written ≡ []
+Outcome words texts input faults status written = (answer : Answer) × Answers words texts input answer × IsCaused faults answer × Prints answer status written
 
 -- what may end a command whose words have no form: status Words, or what may take the place of any other
 abbrev pub MayRefuseWords : Status → Type 0

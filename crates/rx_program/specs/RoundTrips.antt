@@ -14,7 +14,7 @@ use Rattle.rx_serial.specs.Laws.{AreBytes}
 use Rattle.rx_program.specs.Words.{Does, Decodes, Encodes, asked_for}
 use Rattle.rx_program.specs.Request.{Request, Serves}
 use Rattle.rx_program.specs.Answers.{Asks}
-use Rattle.rx_program.specs.Outcome.{Outcome, line}
+use Rattle.rx_program.specs.Outcome.{FaultCounts, Outcome, line}
 use Rattle.rx_program.specs.declared.status.Status.TheVariants.{Done}
 
 -- the words ask for this of the package, with whatever number of splits
@@ -41,10 +41,10 @@ pub record IsJsonOfText (words : List (List ℕ)) (texts : Texts) (text printed 
 
 -- what was encoded of a text is decoded as the JSON of the text's valuation
 abbrev pub EncodedIsDecoded : Type 0
-EncodedIsDecoded = (encode decode : List (List ℕ)) (texts : Texts) (text bytes printed : List ℕ) → AskBoth encode decode
-    → Outcome encode texts text Done bytes → Outcome decode texts bytes Done printed → IsJsonOfText encode texts text printed
+EncodedIsDecoded = (encode decode : List (List ℕ)) (texts : Texts) (text bytes printed : List ℕ) (one other : FaultCounts) → AskBoth encode decode
+    → Outcome encode texts text one Done bytes → Outcome decode texts bytes other Done printed → IsJsonOfText encode texts text printed
 
 -- the line that was printed of a buffer is encoded as the buffer
 abbrev pub DecodedIsEncoded : Type 0
-DecodedIsEncoded = (encode decode : List (List ℕ)) (texts : Texts) (bytes printed written : List ℕ) → AskBoth encode decode → AreBytes bytes
-    → Outcome decode texts bytes Done printed → Outcome encode texts printed Done written → written ≡ bytes
+DecodedIsEncoded = (encode decode : List (List ℕ)) (texts : Texts) (bytes printed written : List ℕ) (one other : FaultCounts) → AskBoth encode decode → AreBytes bytes
+    → Outcome decode texts bytes one Done printed → Outcome encode texts printed other Done written → written ≡ bytes

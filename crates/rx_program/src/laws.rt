@@ -1,6 +1,7 @@
 //! What the definitions of answers say together, as contracts of functions that do nothing.
 ghost use Rattle.rx_program.specs.Laws.{OneAnswer};
 ghost use Rattle.rx_program.specs.RoundTrips.{EncodedIsDecoded, DecodedIsEncoded};
+ghost use Rattle.rx_program.specs.Soundness.{DoneShowsSoundness, NotAcceptedShowsFault, UndecidedShowsWalk};
 
 use rx_meaning::one_meaning;
 use rx_trees::one_tree;
@@ -28,3 +29,12 @@ pub fn decoded_is_encoded()
     one_tree();
     one_meaning();
 }
+
+/// The messages that a command checks are sound, where it ends with status Done; `check` checks all of its package, `decode` and
+/// `encode` the one that they are asked for. Where it ends with NotAccepted some check of one of them does not hold. Where it ends
+/// with Undecided the walk of some check needs more inner nodes than there are splits.
+pub fn statuses_tell_soundness()
+    ensures done { DoneShowsSoundness }
+    ensures not_accepted { NotAcceptedShowsFault }
+    ensures undecided { UndecidedShowsWalk }
+{}

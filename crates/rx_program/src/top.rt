@@ -90,7 +90,8 @@ fn answer<H: Shelf, I: Source>(
 }
 
 /// Runs a command. What is written to `out`, and the status, are those of the answer to the words, the texts on the
-/// shelf and the input, where shelf and input tell them; with a fault of `out`, a front of the answer's text.
+/// shelf and the input, where shelf and input tell them; with a fault of `out`, a front of the answer's text. A fault of shelf
+/// or input is the answer only where that object counted one.
 /// The other clauses hold of all shelves, inputs and outputs; `same` and `at_end` speak of one that tells its contents.
 pub fn run<H: Shelf, I: Source, O: Sink>(
     alloc: Global,
@@ -101,7 +102,7 @@ pub fn run<H: Shelf, I: Source, O: Sink>(
 ) -> Status
     ensures outcome { IfSome (H.texts shelf.old) (λ texts. IfSome (I.left input.old) (λ left.
         (written : List ℕ) × Appends (O.written out.old) (O.written out.new) written
-        × Outcome (map string_bytes words.now) texts left result written)) }
+        × Outcome (map string_bytes words.now) texts left (record { shelf_before = H.faults shelf.old; shelf_after = H.faults shelf.new; source_before = I.faults input.old; source_after = I.faults input.new }) result written)) }
     // status Words exactly where the words have no form
     ensures usage { result ≡ Status.Words → HaveNoForm (map string_bytes words.now) }
     ensures no_form { HaveNoForm (map string_bytes words.now) → MayRefuseWords result }

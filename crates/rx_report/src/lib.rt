@@ -2,6 +2,7 @@
 #![tactic(auto)]
 
 mod fault;
+mod laws;
 mod lines;
 mod path;
 mod reported;
@@ -13,5 +14,6 @@ mod values;
 mod verdict;
 
 pub use fault::NoMemory;
+pub use laws::counts_tell_soundness;
 pub use reported::{Examined, Reported};
 pub use reporting::{examine, report_package};
