@@ -18,4 +18,5 @@ pub mod Gains
 pub mod Rounds
 pub mod Initial
 pub mod Bounded
+pub mod AloneRows
 pub mod Numbered

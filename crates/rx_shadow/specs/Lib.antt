@@ -1,6 +1,7 @@
 pub mod Bounds
 pub mod Simple
 pub mod Known
+pub mod Marked
 pub mod BoundRows
 pub mod Derivations
 pub mod Placing

@@ -1,5 +1,5 @@
 // The unit bounds of variables.
-ghost use Rattle.std.specs.Prelude.{◌≡◌, ◌<◌, ◌^◌, ◌-ℤ◌, ◌+ℤ◌, unsigned_abs, None, false, ◌⊎◌, length, IfSome, IsSomeAnd, Some, true, pos, negsuc, neg_ℤ, int_lt, int_le, ◌&&◌, ◌||◌, option_map, map, ℤ, MatchOption};
+ghost use Rattle.std.specs.Prelude.{◌≡◌, ◌≢◌, ◌<◌, ◌^◌, ◌-ℤ◌, ◌+ℤ◌, unsigned_abs, None, false, ◌⊎◌, length, IfSome, IsSomeAnd, Some, true, pos, negsuc, neg_ℤ, int_lt, int_le, ◌&&◌, ◌||◌, option_map, map, ℤ, MatchOption};
 ghost use Rattle.std.specs.List.{All, Contains, filter};
 ghost use Rattle.std.specs.Int.{int_div_euclid};
 ghost use Rattle.std.specs.Ordering.{int_eq};
@@ -11,7 +11,7 @@ ghost use Rattle.rx_shadow.specs.BoundRows.{AreBounds, LacksBound};
 ghost use Rattle.rx_shadow.specs.Derivations.{IsClosing};
 
 use crate::known::Known;
-use crate::rows::{is_less, is_unit_row};
+use crate::rows::is_less;
 use rx_linear::Step;
 
 /// The one with the greater constant.
@@ -20,7 +20,7 @@ fn greater<'a>(best: Option<&'a Known>, next: &'a Known) -> &'a Known
     ensures one { (result.now ≡ next.now) ⊎ IsSomeAnd best.entry (λ k. result.now ≡ k.now) }
 {
     match best {
-        Some(known) if is_less(&next.row.least, &known.row.least) => known,
+        Some(known) if is_less(&next.row.row().least, &known.row.row().least) => known,
         _ => next,
     }
 }
@@ -31,14 +31,15 @@ pub(crate) fn greatest_unit<'a>(
     number: &i128,
     known: &'a [Known],
 ) -> Option<&'a Known>
-    requires { All (λ k. variable < length k.row.coefficients) known.now }
+    requires within { All (λ k. variable < length k.row.coefficients) known.now }
+    requires some { number.now ≢ pos 0 }
     ensures bound { option_map (λ k. k.now.row.least) result ≡ greatest_of (map (λ row. row.least) (filter (is_unit_row variable number.now) (rows_of known.now))) }
     ensures among { IfSome result (λ k. Contains known.now k.now) }
     ensures unit { IfSome result (λ k. is_unit_row variable number.now k.now.row ≡ true) }
 {
     let mut greatest = None;
     for next in known {
-        if is_unit_row(&next.row, variable, number) {
+        if next.row.is_unit(variable, number) {
             greatest = Some(greater(greatest, next));
         }
     }
@@ -89,7 +90,7 @@ pub(crate) fn bounds_clash(variable: usize, variables: usize, known: &[Known]) -
     ensures { MatchOption result (bounds_clash variable (rows_of known.now) ≡ false) (λ step. (bounds_clash variable (rows_of known.now) ≡ true) × IsClosing known.now step) }
 {
     let (low, high) = bounds(variable, known)?;
-    if exceeds(&low.row.least, &high.row.least) {
+    if exceeds(&low.row.row().least, &high.row.row().least) {
         Some(Step::Combine {
             left: low.number,
             left_times: 1,
@@ -112,7 +113,7 @@ pub(crate) fn fixed_bounds(
     ensures { MatchOption result (fixed_value variable (rows_of known.now) ≡ None) (λ pair. AreBounds variable known.now pair.0.now pair.1.now × (fixed_value variable (rows_of known.now) ≡ Some pair.0.now.row.least) × (pair.0.now.row.least ≡ neg_ℤ pair.1.now.row.least)) }
 {
     let (low, high) = bounds(variable, known)?;
-    if is_negation(&low.row.least, &high.row.least) {
+    if is_negation(&low.row.row().least, &high.row.row().least) {
         Some((low, high))
     } else {
         None
@@ -126,7 +127,7 @@ fn width(variable: usize, variables: usize, known: &[Known]) -> i128
     ensures { result ≡ width (rows_of known.now) variable }
 {
     match bounds(variable, known) {
-        Some((low, high)) => distance(&low.row.least, &high.row.least),
+        Some((low, high)) => distance(&low.row.row().least, &high.row.row().least),
         None => 0,
     }
 }
@@ -174,7 +175,7 @@ pub(crate) fn middle(variable: usize, variables: usize, known: &[Known]) -> i128
     ensures { result ≡ middle variable (rows_of known.now) }
 {
     match bounds(variable, known) {
-        Some((low, high)) => half_way(&low.row.least, &high.row.least),
+        Some((low, high)) => half_way(&low.row.row().least, &high.row.row().least),
         None => 0,
     }
 }

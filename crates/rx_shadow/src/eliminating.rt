@@ -30,7 +30,7 @@ fn split(
     let mut kept = Vec::with_capacity(alloc, known.len())?;
     let mut leaving = Vec::with_capacity(alloc, known.len())?;
     for k in known {
-        if has_coefficient(&k.row, variable, &0) {
+        if has_coefficient(k.row.row(), variable, &0) {
             kept.push(k)?;
         } else {
             leaving.push(k)?;
@@ -59,8 +59,8 @@ impl Derived {
         ensures continues { OnOk result (Continues self.old self.new) }
         ensures derived { OnOk result ((given : List Row) (others : List Known) → Contains others first.now → Contains others second.now → Derives given self.old others → Derives given self.new others) }
     {
-        let first_times = negated(&second.row, variable);
-        let second_times = coefficient(&first.row, variable);
+        let first_times = negated(second.row.row(), variable);
+        let second_times = coefficient(first.row.row(), variable);
         self.join_sum(alloc, first, first_times, second, second_times)
     }
 
@@ -83,7 +83,7 @@ impl Derived {
         ensures derived { OnOk result ((given : List Row) → Derives given self.old leaving.now → Derives given self.new leaving.now) }
     {
         for second in leaving {
-            if is_negative(&second.row, variable) {
+            if is_negative(second.row.row(), variable) {
                 if !self.join_pair(alloc, variable, first, second)? {
                     return Ok(false);
                 }
@@ -108,7 +108,7 @@ impl Derived {
         ensures derived { OnOk result ((given : List Row) → Derives given self.old leaving.now → Derives given self.new leaving.now) }
     {
         for first in leaving {
-            if is_positive(&first.row, variable) {
+            if is_positive(first.row.row(), variable) {
                 if !self.join_pairs_of(alloc, variable, first, leaving)? {
                     return Ok(false);
                 }
@@ -138,11 +138,11 @@ impl Derived {
         ensures continues { OnOk result (Continues self.old self.new) }
         ensures derived { OnOk result ((given : List Row) (others : List Known) → Contains others low.now → Contains others high.now → Contains others row.now → Derives given self.old others → Derives given self.new others) }
     {
-        if is_positive(&row.row, variable) {
-            let times = coefficient(&row.row, variable);
+        if is_positive(row.row.row(), variable) {
+            let times = coefficient(row.row.row(), variable);
             self.join_sum(alloc, row, 1, high, times)
         } else {
-            let times = negated(&row.row, variable);
+            let times = negated(row.row.row(), variable);
             self.join_sum(alloc, row, 1, low, times)
         }
     }

@@ -18,7 +18,7 @@ fn false_row(known: &[Known]) -> Option<Step>
     ensures { MatchOption result (list_any is_false (rows_of known.now) ≡ false) (λ step. (list_any is_false (rows_of known.now) ≡ true) × IsClosing known.now step) }
 {
     for k in known {
-        if is_false(&k.row) {
+        if is_false(k.row.row()) {
             return Some(Step::Tighten { row: k.number });
         }
     }
@@ -53,7 +53,7 @@ pub(crate) fn clash(variables: usize, known: &[Known]) -> Option<Step>
 pub(crate) fn are_plain(known: &[Known]) -> bool
     ensures { result ≡ list_all (λ k. has_no_variable k.row) known.now }
 {
-    known.iter().all(|k| has_no_variable(&k.row))
+    known.iter().all(|k| has_no_variable(k.row.row()))
 }
 
 /// Whether the variable occurs in a row.
@@ -61,7 +61,9 @@ fn occurs(variable: usize, known: &[Known]) -> bool
     requires { All (λ k. variable < length k.row.coefficients) known.now }
     ensures { result ≡ list_any (λ k. has variable k.row) known.now }
 {
-    known.iter().any(|k| !has_coefficient(&k.row, variable, &0))
+    known
+        .iter()
+        .any(|k| !has_coefficient(k.row.row(), variable, &0))
 }
 
 /// Whether each positive coefficient of the variable is 1.
@@ -69,7 +71,8 @@ fn positives_are_one(variable: usize, known: &[Known]) -> bool
     requires { All (λ k. variable < length k.row.coefficients) known.now }
     ensures { result ≡ list_all (is_one_if_positive variable) known.now }
 {
-    known.iter().all(|k| !is_positive(&k.row, variable) || has_coefficient(&k.row, variable, &1))
+    known.iter().all(|k| !is_positive(k.row.row(), variable)
+        || has_coefficient(k.row.row(), variable, &1))
 }
 
 /// Whether each negative coefficient of the variable is -1.
@@ -77,7 +80,8 @@ fn negatives_are_one(variable: usize, known: &[Known]) -> bool
     requires { All (λ k. variable < length k.row.coefficients) known.now }
     ensures { result ≡ list_all (is_one_if_negative variable) known.now }
 {
-    known.iter().all(|k| !is_negative(&k.row, variable) || has_coefficient(&k.row, variable, &-1))
+    known.iter().all(|k| !is_negative(k.row.row(), variable)
+        || has_coefficient(k.row.row(), variable, &-1))
 }
 
 /// Whether in each pair of the variable one coefficient is 1 in magnitude.

@@ -13,6 +13,7 @@ ghost use Rattle.rx_shadow.specs.Joined.{IsJoined, IsSolvedAt};
 use crate::bounds::{middle, narrowest};
 use crate::exact::{are_plain, clash, greatest_exact};
 use crate::known::{Derived, Known};
+use crate::marked::MarkedRow;
 use crate::solving::{is_new, origin, search_exact};
 use crate::{NoMemory, Solved};
 use rx_linear::{Row, Step, tighten, tightened};
@@ -48,7 +49,10 @@ fn keep_new(known: &mut Vec<Known>, last: Row) -> Result<(), NoMemory>
         return Ok(());
     }
     let number = known.len();
-    known.push(Known { row: last, number })?;
+    known.push(Known {
+        row: MarkedRow::new(last),
+        number,
+    })?;
     Ok(())
 }
 
@@ -92,9 +96,9 @@ fn copied(alloc: Global, known: &[Known]) -> Result<Vec<Known>, NoMemory>
 {
     let mut copy = Vec::with_capacity(alloc, known.len())?;
     for k in known {
-        let row = copied_row(alloc, &k.row)?;
+        let row = copied_row(alloc, k.row.row())?;
         copy.push(Known {
-            row,
+            row: MarkedRow::new(row),
             number: k.number,
         })?;
     }

@@ -10,6 +10,7 @@ ghost use Rattle.rx_shadow.specs.Known.{rows_of, AllFit};
 ghost use Rattle.rx_shadow.specs.Derivations.{row_given, Derives, Reaches, Continues, HasRoom};
 
 use crate::NoMemory;
+use crate::marked::MarkedRow;
 use crate::rows::{is_narrow, is_true, same_row};
 use rx_linear::{Row, Step, combine, tightened};
 use std::alloc::Global;
@@ -20,7 +21,7 @@ pub(crate) const ROW_LIMIT: usize = 1024;
 /// A row with the number that it has among the given rows and the results of the steps.
 #[derive(Debug, Drop)]
 pub(crate) struct Known {
-    pub(crate) row: Row,
+    pub(crate) row: MarkedRow,
     pub(crate) number: usize,
 }
 
@@ -37,7 +38,7 @@ pub(crate) struct Derived {
 pub(crate) fn is_there(row: &Row, known: &[Known]) -> bool
     ensures { result ≡ list_any (same_row row.now) (rows_of known.now) }
 {
-    known.iter().any(|k| same_row(row, &k.row))
+    known.iter().any(|k| same_row(row, k.row.row()))
 }
 
 impl Derived {
@@ -66,7 +67,10 @@ impl Derived {
     {
         let derived = self.take_step(step)?;
         let number = self.take_step(Step::Tighten { row: derived })?;
-        self.known.push(Known { row: last, number })?;
+        self.known.push(Known {
+            row: MarkedRow::new(last),
+            number,
+        })?;
         Ok(())
     }
 
@@ -110,7 +114,13 @@ impl Derived {
         ensures continues { OnOk result (Continues self.old self.new) }
         ensures derived { OnOk result ((given : List Row) (others : List Known) → Contains others left.now → Contains others right.now → Derives given self.old others → Derives given self.new others) }
     {
-        let row = combine(alloc, &left.row, left_times, &right.row, right_times)?;
+        let row = combine(
+            alloc,
+            left.row.row(),
+            left_times,
+            right.row.row(),
+            right_times,
+        )?;
         let step = Step::Combine {
             left: left.number,
             left_times,

@@ -8,6 +8,7 @@ mod fault;
 mod joined;
 mod known;
 mod laws;
+mod marked;
 mod placing;
 mod rows;
 mod solving;

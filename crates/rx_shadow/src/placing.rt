@@ -77,11 +77,11 @@ fn place(variable: usize, leaving: &[Known], point: &mut [i128])
     ensures holds { all_hold point.new (rows_of leaving.now) ≡ true }
 {
     if let Some(low) = greatest_unit(variable, &1, leaving) {
-        point[variable] = low.row.least;
+        point[variable] = low.row.row().least;
     }
     for k in leaving {
-        if is_positive(&k.row, variable) {
-            raise(variable, &k.row, point);
+        if is_positive(k.row.row(), variable) {
+            raise(variable, k.row.row(), point);
         }
     }
 }

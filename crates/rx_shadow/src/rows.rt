@@ -4,7 +4,7 @@ ghost use Rattle.std.specs.List.{list_all};
 ghost use Rattle.std.specs.Ordering.{int_eq};
 ghost use Rattle.rx_linear.specs.Rows.{all_below, is_narrow, Narrow};
 ghost use Rattle.rx_linear.specs.Joining.{has_no_variable, is_true, is_false, same_row};
-ghost use Rattle.rx_linear.specs.Units.{coefficient, is_unit_row};
+ghost use Rattle.rx_linear.specs.Units.{coefficient};
 ghost use Rattle.rx_shadow.specs.Bounds.{zero_elsewhere};
 
 use rx_linear::Row;
@@ -83,21 +83,11 @@ pub(crate) fn has_coefficient(row: &Row, variable: usize, number: &i128) -> bool
 }
 
 /// Whether all numbers but the one at that place are 0.
-fn is_zero_elsewhere(numbers: &[i128], place: usize) -> bool
+pub(crate) fn is_zero_elsewhere(numbers: &[i128], place: usize) -> bool
     requires { place < length numbers.now }
     ensures { result ≡ zero_elsewhere place numbers.now }
 {
     all_zero(&numbers[..place]) && all_zero(&numbers[place + 1..])
-}
-
-/// Whether the row has that coefficient of the variable, and no other one.
-#[tactic(auto, using(crate::proofs::Units::unit_row_by_parts))]
-pub(crate) fn is_unit_row(row: &Row, variable: usize, number: &i128) -> bool
-    requires { variable < length row.now.coefficients }
-    ensures { result ≡ is_unit_row variable number.now row.now }
-{
-    has_coefficient(row, variable, number)
-        && is_zero_elsewhere(row.coefficients.as_slice(), variable)
 }
 
 /// Whether each number is below 2^20 in magnitude.

@@ -20,6 +20,7 @@ use crate::bounds::{bounds, narrowest};
 use crate::eliminating::{Elimination, eliminate};
 use crate::exact::{are_plain, clash, greatest_exact};
 use crate::known::{Derived, Known, is_there};
+use crate::marked::MarkedRow;
 use crate::placing::with_value;
 use crate::rows::is_true;
 use rx_linear::{Row, Step, System, tighten};
@@ -55,7 +56,10 @@ fn joined_rows(alloc: Global, variables: usize, rows: &[Row]) -> Result<Vec<Know
         let last = tighten(alloc, row)?;
         if is_new(&last, &known) {
             let number = known.len();
-            known.push(Known { row: last, number })?;
+            known.push(Known {
+                row: MarkedRow::new(last),
+                number,
+            })?;
         }
     }
     Ok(known)

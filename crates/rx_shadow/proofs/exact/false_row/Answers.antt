@@ -10,7 +10,7 @@ use Rattle.rx_shadow.proofs.exact.false_row.Goals as goal
 
 pub returns-then-is_false : goal.returns-then-is_false
 returns-then-is_false c =
-    let t = sym c.is_false.ensures ∙ c.if-is_false.true in (
+    let t = ap is_false (sym c.row.ensures) ∙ sym c.is_false.ensures ∙ c.if-is_false.true in (
       any_rows is_false c.args.known.now
           ∙ list_any_at (λ (k : Known). is_false k.row) c.args.known.now c.loop-k.k-index c.k-item.result c.loop-k-test.true (ap (λ (k : Known). is_false k.row) (sym c.k-item.is) ∙ t),
       closing_tighten c.args.known.now c.k-item.result (c.loop-k.k-index, c.loop-k-test.true, sym c.k-item.is) t,

@@ -1,5 +1,6 @@
 use Rattle.std.proofs.Common.{◌≡◌, sym, ap, subst, ◌∙◌, ◌+◌, ◌++◌, ◌∷◌, [], List, not, ◌||◌, length, rules}
 use Rattle.std.specs.List.{list_any}
+use Rattle.rx_linear.specs.declared.row.Row.{Row}
 use Rattle.rx_linear.specs.Systems.{FitsSystem}
 use Rattle.rx_linear.specs.Joining.{is_true, same_row}
 use Rattle.rx_shadow.specs.declared.known.Known.{Known}
@@ -19,7 +20,7 @@ loop-row-preserved c =
     elim c.if-is_new.branch [
       | then-is_new+in_ok-push w ↦
           let number : w.len-number.result ≡ length c.loop-row.known.items = search rules in
-          let more : c.if-is_new.known.items ≡ c.loop-row.known.items ++ record { row = c.in_ok-last.last; number = w.len-number.result } ∷ [] = ap (λ v. v.items) w.known-is ∙ w.in_ok-push.ensures.items in
+          let more : c.if-is_new.known.items ≡ c.loop-row.known.items ++ record { row = c.in_ok-last.last; number = w.len-number.result } ∷ [] = ap (λ v. v.items) w.known-is ∙ w.in_ok-push.ensures.items ∙ ap (λ (r : Row). c.loop-row.known.items ++ record { row = r; number = w.len-number.result } ∷ []) w.new.ensures in
           joined_push c.args.variables c.args.rows.now c.loop-row.row-index w.len-number.result c.row-item.result c.in_ok-last.last c.loop-row.known.items c.if-is_new.known.items c.loop-row.invariant c.loop-row-test.true c.row-item.is fits c.in_ok-last.ensures.value (sym e ∙ w.if-is_new.true) number more
       | else-is_new w ↦
           subst (λ v. Joined c.args.variables c.args.rows.now (c.loop-row.row-index + 1) v.items) (sym w.known-is)

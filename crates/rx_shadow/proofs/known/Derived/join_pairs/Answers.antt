@@ -32,7 +32,7 @@ pub returns-then-not-branch-clause-reached : goal.returns-then-not-branch-clause
 returns-then-not-branch-clause-reached c =
     ap (λ (rows : List Row). within_limits (joined (rows_of c.args.self.now.known.items) rows)) (sym (pairs_each c.args.variable c.args.leaving.now c.args.leaving.now))
     ∙ joining_fails (new_pairs c.args.variable c.args.leaving.now) c.args.leaving.now c.loop-first.first-index c.first-item.result c.args.self.now c.loop-first.self c.join_pairs_of.new.self (map (paired c.args.variable c.first-item.result.row) (negatives c.args.variable (rows_of c.args.leaving.now))) c.in_ok-join_pairs_of.field-0 c.loop-first.invariant c.loop-first-test.true c.first-item.is
-    (given_pairs c.args.variable c.args.leaving.now c.first-item.result true (sym c.is_positive.ensures ∙ c.if-is_positive.true)) c.if-not-branch.true c.in_ok-join_pairs_of.ensures.reached
+    (given_pairs c.args.variable c.args.leaving.now c.first-item.result true (ap (λ (r : Row). int_lt (pos 0) (coefficient c.args.variable r)) (sym c.row.ensures) ∙ sym c.is_positive.ensures ∙ c.if-is_positive.true)) c.if-not-branch.true c.in_ok-join_pairs_of.ensures.reached
 
 pub returns-then-not-branch-clause-continues : goal.returns-then-not-branch-clause-continues
 returns-then-not-branch-clause-continues c = continues_then c.args.self.now c.loop-first.self c.join_pairs_of.new.self c.loop-first.invariant.continues c.in_ok-join_pairs_of.ensures.continues
@@ -48,12 +48,12 @@ loop-first-preserved c =
       | then-is_positive+in_ok-join_pairs_of+else-not-branch w ↦
           subst (λ (next : Derived). Joining f c.args.leaving.now (c.loop-first.first-index + 1) c.args.self.now next) (sym w.self-is)
           (joining_step f c.args.leaving.now c.loop-first.first-index c.first-item.result c.args.self.now c.loop-first.self w.join_pairs_of.new.self (map (paired c.args.variable c.first-item.result.row) (negatives c.args.variable (rows_of c.args.leaving.now))) w.in_ok-join_pairs_of.field-0 c.loop-first.invariant c.loop-first-test.true c.first-item.is
-          (given_pairs c.args.variable c.args.leaving.now c.first-item.result true (sym c.is_positive.ensures ∙ w.if-is_positive.true)) w.if-not-branch.false w.in_ok-join_pairs_of.ensures.reached w.in_ok-join_pairs_of.ensures.continues
+          (given_pairs c.args.variable c.args.leaving.now c.first-item.result true (ap (λ (r : Row). int_lt (pos 0) (coefficient c.args.variable r)) (sym c.row.ensures) ∙ sym c.is_positive.ensures ∙ w.if-is_positive.true)) w.if-not-branch.false w.in_ok-join_pairs_of.ensures.reached w.in_ok-join_pairs_of.ensures.continues
           (λ given d. w.in_ok-join_pairs_of.ensures.derived given d))
       | else-is_positive w ↦
           subst (λ (next : Derived). Joining f c.args.leaving.now (c.loop-first.first-index + 1) c.args.self.now next) (sym w.self-is)
           (joining_skip f c.args.leaving.now c.loop-first.first-index c.first-item.result c.args.self.now c.loop-first.self c.loop-first.invariant c.loop-first-test.true c.first-item.is
-          (given_pairs c.args.variable c.args.leaving.now c.first-item.result false (sym c.is_positive.ensures ∙ w.if-is_positive.false)))
+          (given_pairs c.args.variable c.args.leaving.now c.first-item.result false (ap (λ (r : Row). int_lt (pos 0) (coefficient c.args.variable r)) (sym c.row.ensures) ∙ sym c.is_positive.ensures ∙ w.if-is_positive.false)))
     ]
 
 pub returns-clause-reached : goal.returns-clause-reached

@@ -40,7 +40,7 @@ pub returns-then-not-branch-clause-reached : goal.returns-then-not-branch-clause
 returns-then-not-branch-clause-reached c =
     ap (λ (rows : List Row). within_limits (joined (rows_of c.args.self.now.known.items) rows)) (sym (pairs_of_each c.args.variable c.args.first.now.row c.args.leaving.now))
     ∙ joining_fails (new_with c.args.variable c.args.first.now.row) c.args.leaving.now c.loop-second.second-index c.second-item.result c.args.self.now c.loop-second.self c.join_pair.new.self (paired c.args.variable c.args.first.now.row c.second-item.result.row ∷ []) c.in_ok-join_pair.field-0 c.loop-second.invariant c.loop-second-test.true c.second-item.is
-    (given_with c.args.variable c.args.first.now.row c.second-item.result true (sym c.is_negative.ensures ∙ c.if-is_negative.true)) c.if-not-branch.true c.in_ok-join_pair.ensures.reached
+    (given_with c.args.variable c.args.first.now.row c.second-item.result true (ap (λ (r : Row). int_lt (coefficient c.args.variable r) (pos 0)) (sym c.row.ensures) ∙ sym c.is_negative.ensures ∙ c.if-is_negative.true)) c.if-not-branch.true c.in_ok-join_pair.ensures.reached
 
 pub returns-then-not-branch-clause-continues : goal.returns-then-not-branch-clause-continues
 returns-then-not-branch-clause-continues c = continues_then c.args.self.now c.loop-second.self c.join_pair.new.self c.loop-second.invariant.continues c.in_ok-join_pair.ensures.continues
@@ -56,12 +56,12 @@ loop-second-preserved c =
       | then-is_negative+in_ok-join_pair+else-not-branch w ↦
           subst (λ (next : Derived). Joining f c.args.leaving.now (c.loop-second.second-index + 1) c.args.self.now next) (sym w.self-is)
           (joining_step f c.args.leaving.now c.loop-second.second-index c.second-item.result c.args.self.now c.loop-second.self w.join_pair.new.self (paired c.args.variable c.args.first.now.row c.second-item.result.row ∷ []) w.in_ok-join_pair.field-0 c.loop-second.invariant c.loop-second-test.true c.second-item.is
-          (given_with c.args.variable c.args.first.now.row c.second-item.result true (sym c.is_negative.ensures ∙ w.if-is_negative.true)) w.if-not-branch.false w.in_ok-join_pair.ensures.reached w.in_ok-join_pair.ensures.continues
+          (given_with c.args.variable c.args.first.now.row c.second-item.result true (ap (λ (r : Row). int_lt (coefficient c.args.variable r) (pos 0)) (sym c.row.ensures) ∙ sym c.is_negative.ensures ∙ w.if-is_negative.true)) w.if-not-branch.false w.in_ok-join_pair.ensures.reached w.in_ok-join_pair.ensures.continues
           (λ given d. w.in_ok-join_pair.ensures.derived given c.args.leaving.now c.requires.first_leaves (c.loop-second.second-index, c.loop-second-test.true, sym c.second-item.is) d))
       | else-is_negative w ↦
           subst (λ (next : Derived). Joining f c.args.leaving.now (c.loop-second.second-index + 1) c.args.self.now next) (sym w.self-is)
           (joining_skip f c.args.leaving.now c.loop-second.second-index c.second-item.result c.args.self.now c.loop-second.self c.loop-second.invariant c.loop-second-test.true c.second-item.is
-          (given_with c.args.variable c.args.first.now.row c.second-item.result false (sym c.is_negative.ensures ∙ w.if-is_negative.false)))
+          (given_with c.args.variable c.args.first.now.row c.second-item.result false (ap (λ (r : Row). int_lt (coefficient c.args.variable r) (pos 0)) (sym c.row.ensures) ∙ sym c.is_negative.ensures ∙ w.if-is_negative.false)))
     ]
 
 pub returns-clause-reached : goal.returns-clause-reached

@@ -1,4 +1,5 @@
 use Rattle.std.proofs.Common.{◌≡◌, sym, ap, ◌∙◌, subst, ℕ, ◌+◌, List, [], ◌∷◌, ◌++◌, length}
+use Rattle.rx_linear.specs.declared.row.Row.{Row}
 use Rattle.rx_shadow.specs.declared.known.Known.{Known}
 use Rattle.rx_shadow.specs.Derivations.{IsDerived}
 use Rattle.rx_shadow.proofs.Derivations.{derived_kept}
@@ -10,7 +11,7 @@ returns-clause-derived c = λ given others row h t d.
     let s2 = c.in_ok-number.ensures.same in
     let one : Known = record { row = c.args.last; number = c.in_ok-number.number } in
     let k : c.push.new.self.items ≡ c.args.self.now.known.items ++ one ∷ [] =
-    c.in_ok-push.ensures.items ∙ ap (λ (ks : List Known). ks ++ one ∷ []) (s2.0 ∙ s1.0) in
+    c.in_ok-push.ensures.items ∙ ap (λ (r : Row). c.take_step-2.new.self.known.items ++ record { row = r; number = c.in_ok-number.number } ∷ []) c.new.ensures ∙ ap (λ (ks : List Known). ks ++ one ∷ []) (s2.0 ∙ s1.0) in
     let g : c.take_step-2.new.self.given ≡ c.args.self.now.given = s2.1 ∙ s1.1 in
     let n : c.in_ok-number.number ≡ c.args.self.now.given + length c.take_step.new.self.steps.items =
     c.in_ok-number.ensures.number ∙ ap (λ (m : ℕ). m + length c.take_step.new.self.steps.items) s1.1 in
