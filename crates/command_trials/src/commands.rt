@@ -4,15 +4,16 @@ use rx_program::{Status, run};
 use std::alloc::Global;
 use std::test::Fail;
 
-// These two words.
-fn words(alloc: Global, command: &str, operand: &str) -> Result<Vec<String>, Fail> {
+// These words.
+fn words_of(alloc: Global, texts: &[&str]) -> Result<Vec<String>, Fail> {
     let mut words = Vec::new(alloc);
-    words.push(String::from_str(alloc, command)?)?;
-    words.push(String::from_str(alloc, operand)?)?;
+    for text in texts {
+        words.push(String::from_str(alloc, *text)?)?;
+    }
     Ok(words)
 }
 
-/// The status of a command over one package's text and an input, and what was written.
+/// The status of a command of two words, as below.
 pub fn ran(
     alloc: Global,
     command: &str,
@@ -21,7 +22,18 @@ pub fn ran(
     text: &[u8],
     input: &[u8],
 ) -> Result<(Status, Vec<u8>), Fail> {
-    let words = words(alloc, command, operand)?;
+    ran_with(alloc, &[command, operand], name, text, input)
+}
+
+/// The status of a command over one package's text and an input, and what was written.
+pub fn ran_with(
+    alloc: Global,
+    words: &[&str],
+    name: &str,
+    text: &[u8],
+    input: &[u8],
+) -> Result<(Status, Vec<u8>), Fail> {
+    let words = words_of(alloc, words)?;
     let mut shelf = MemoryShelf::make(alloc, &[])?;
     shelf.add(alloc, name, text)?;
     let mut source = MemorySource::make(alloc, input, 64, &[])?;

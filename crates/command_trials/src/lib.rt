@@ -15,3 +15,5 @@ mod encoded;
 mod longest;
 #[cfg(test)]
 mod texts;
+#[cfg(test)]
+mod worked;
