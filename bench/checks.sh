@@ -1,5 +1,6 @@
 #!/usr/bin/env bash
-# Measures what checks cost: the processor time and the memory of whole processes. The input of `decode` is empty.
+# Measures what checks cost, and what a command costs that checks first: the processor time and the memory of whole processes.
+# `decode` reads 5 bytes of TLV and 60 of Ethernet.
 #   RUNS   how many runs of each, of which the least time counts; 9 if not set
 . "$(dirname "$0")/ours.sh"
 runs=${RUNS:-9}
@@ -21,14 +22,19 @@ print("   end message;\nend Ways;")
 END
 
 measure() {
-    used=$("$work/timed" "$runs" "$work" "$ours" "$@")
-    line=$(cd "$work" && "$ours" "$@" < /dev/null | tail -n 1) || true
+    input=$1
+    shift
+    used=$("$work/timed" "$runs" "$work" "$ours" "$@" < "$input")
+    line=$(cd "$work" && "$ours" "$@" < "$input" | tail -n 1) || true
     printf '%-28s %s  %s\n' "$*" "$used" "$(printf '%s' "$line" | cut -c 1-60)"
 }
 
-measure check TLV
-measure check Ethernet
-measure check Hard --splits 255
-measure check Ways
-measure decode TLV::Message
-measure decode Ethernet::Frame
+printf '\1\0\2\12\13' > "$work/tlv.bytes"
+{ printf '\377\377\377\377\377\377\0\0\0\0\0\1\10\0'; head -c 46 /dev/zero; } > "$work/ethernet.bytes"
+
+measure /dev/null check TLV
+measure /dev/null check Ethernet
+measure /dev/null check Hard --splits 255
+measure /dev/null check Ways
+measure "$work/tlv.bytes" decode TLV::Message
+measure "$work/ethernet.bytes" decode Ethernet::Frame

@@ -1,5 +1,5 @@
 /* Runs a program in a folder some times, and prints the least processor time in milliseconds and the greatest memory
-   in megabytes: timed RUNS FOLDER PROGRAM WORD.. Its output goes to /dev/null, and its input is empty. */
+   in megabytes: timed RUNS FOLDER PROGRAM WORD.. Its output goes to /dev/null. Each run reads the input of `timed` anew. */
 #include <fcntl.h>
 #include <stdio.h>
 #include <stdlib.h>
@@ -16,8 +16,9 @@ int main(int argc, char **argv) {
     for (int run = atoi(argv[1]); run > 0; run--) {
         pid_t child = fork();
         if (child == 0) {
-            int none = open("/dev/null", O_RDWR);
-            if (none < 0 || chdir(argv[2]) != 0 || dup2(none, 0) < 0 || dup2(none, 1) < 0) _exit(127);
+            int none = open("/dev/null", O_WRONLY);
+            if (none < 0 || chdir(argv[2]) != 0 || dup2(none, 1) < 0) _exit(127);
+            lseek(0, 0, SEEK_SET);
             execv(argv[3], argv + 3);
             _exit(127);
         }
