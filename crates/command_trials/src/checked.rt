@@ -80,8 +80,8 @@ fn a_message_that_fails_a_check_is_not_decoded(rt: HostRuntime) -> Result<(), Fa
     Ok(())
 }
 
-// A tag that decides whether a length and bytes follow.
-const TLV: &[u8] =
+/// A tag that decides whether a length and bytes follow.
+pub const TLV: &[u8] =
     b"package TLV is type Tag is (Data => 1, Error => 3) with Size => 8; type Length is unsigned 16;
 type Message is message Tag : Tag then Length if Tag = Data then null if Tag = Error; Length : Length; Value : Opaque with Size => Length * 8; end message; end TLV;";
 

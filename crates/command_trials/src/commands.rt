@@ -4,8 +4,8 @@ use rx_program::{Status, run};
 use std::alloc::Global;
 use std::test::Fail;
 
-// These words.
-fn words_of(alloc: Global, texts: &[&str]) -> Result<Vec<String>, Fail> {
+/// These words.
+pub fn words_of(alloc: Global, texts: &[&str]) -> Result<Vec<String>, Fail> {
     let mut words = Vec::new(alloc);
     for text in texts {
         words.push(String::from_str(alloc, *text)?)?;

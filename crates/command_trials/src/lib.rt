@@ -12,6 +12,8 @@ mod decoded;
 #[cfg(test)]
 mod encoded;
 #[cfg(test)]
+mod faults;
+#[cfg(test)]
 mod longest;
 #[cfg(test)]
 mod texts;
