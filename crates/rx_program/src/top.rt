@@ -111,7 +111,7 @@ pub fn run<H: Shelf, I: Source, O: Sink>(
     ensures source_fault { result ≡ Status.SourceFault → HasRisen (I.faults input.old) (I.faults input.new) }
     ensures sink_fault { result ≡ Status.SinkFault → HasRisen (O.faults out.old) (O.faults out.new) }
     // the texts stay; an input that was decoded, encoded or refused was read to its end; `check` leaves it alone, and so
-    // does what is told before the input is needed
+    // does a command that ends with 1, 2, 3, 4 or 7; after 6, 8, 9 and 10 it may have been read or not
     ensures same { SameTexts (H.texts shelf.old) (H.texts shelf.new) }
     ensures at_end { HaveInput (map string_bytes words.now) → ReadsAll result (IsAtEnd (I.left input.new)) }
     ensures untouched { HaveNoInput (map string_bytes words.now) → input.new ≡ input.old }
