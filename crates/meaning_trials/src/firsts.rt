@@ -69,6 +69,16 @@ fn links_lay_a_field_alike(rt: HostRuntime) -> Result<(), Fail> {
         "A : U8 then C with First => A'Last + 1 if A = 1 then B; B : U8 then C with First => B'First; C : U8;";
     let told = of_message(alloc, behind, "First")?;
     assert_eq!(rt; told, Some((17, 4, 76)));
+    let unknown = "A : U8 then C with First => Y'First if A = 1 then B; B : U8; C : U8;";
+    let told = of_message(alloc, unknown, "First")?;
+    assert_eq!(rt; told, Some((17, 4, 20)));
+    let literal = "A : U8 then C with First => True'First if A = 1 then B; B : U8; C : U8;";
+    let told = of_message(alloc, literal, "First")?;
+    assert_eq!(rt; told, Some((17, 4, 20)));
+    let alike =
+        "A : U8 then C with First => Y'First if A = 1 then B; B : U8 then C with First => y'First; C : U8;";
+    let told = of_message(alloc, alike, "Y")?;
+    assert_eq!(rt; told, Some((8, 4, 29)));
     let alike =
         "A : U8 then C with First => A'First if A = 1 then B; B : U8 then C with First => A'First; C : U8;";
     let told = of_message(alloc, alike, "")?;

@@ -1,9 +1,9 @@
 //! Worked packages, with what they mean, or what is refused of them first.
 
-use crate::worked::tree_of;
+use crate::worked::{tells, tree_of};
 use rx_graph::{Link, Message, Node, Spec};
 use rx_judge::spelled;
-use rx_spec::{SpecFault, elaborate};
+use rx_spec::{ElabFault, elaborate};
 use rx_syntax::PackageTree;
 use rx_types::{Expr, FieldType, Name, Operator};
 use std::alloc::Global;
@@ -22,14 +22,14 @@ fn add(
     Ok(())
 }
 
-fn one(alloc: Global, text: &str) -> Result<Result<Spec, SpecFault>, Fail> {
+fn one(alloc: Global, text: &str) -> Result<Result<Spec, ElabFault>, Fail> {
     let mut asked = Vec::new(alloc);
     let mut trees = Vec::new(alloc);
     add(alloc, &mut asked, &mut trees, text)?;
     Ok(elaborate(alloc, &asked, &trees))
 }
 
-fn two(alloc: Global, first: &str, second: &str) -> Result<Result<Spec, SpecFault>, Fail> {
+fn two(alloc: Global, first: &str, second: &str) -> Result<Result<Spec, ElabFault>, Fail> {
     let mut asked = Vec::new(alloc);
     let mut trees = Vec::new(alloc);
     add(alloc, &mut asked, &mut trees, first)?;
@@ -39,18 +39,18 @@ fn two(alloc: Global, first: &str, second: &str) -> Result<Result<Spec, SpecFaul
 
 // The package, the number and the place of the refusal, which tells this name; None where there is none.
 fn told(
-    outcome: Result<Spec, SpecFault>,
+    outcome: Result<Spec, ElabFault>,
     name: &str,
 ) -> Result<Option<(usize, u8, u32, u32)>, Fail> {
     match outcome {
         Ok(_) => Ok(None),
-        Err(SpecFault::NoMemory) => Err(Fail::new("no memory")),
-        Err(SpecFault::Refused(told)) => {
-            if !told.refusal.name.is_written(name) {
+        Err(ElabFault::NoMemory) => Err(Fail::new("no memory")),
+        Err(ElabFault::Refused { package, refusal }) => {
+            if !tells(&refusal, name) {
                 return Err(Fail::new("another name is told"));
             }
-            let place = told.refusal.place;
-            Ok(Some((told.package, told.refusal.number, place.line, place.column)))
+            let place = refusal.place;
+            Ok(Some((package, refusal.rule.number(), place.line, place.column)))
         }
     }
 }

@@ -8,7 +8,8 @@ use rx_grammar::parse_package;
 use rx_judge::{Fault, FieldKind, KnownField, Scope, Table, spelled};
 use rx_links::{Way, counts_stand, links_of, no_cycle, positions};
 use rx_syntax::{
-    DeclKind, DeclTree, DefTree, FieldTree, HeaderTree, MessageTree, Named, PackageTree, lex,
+    DeclKind, DeclTree, DefTree, FieldTree, HeaderTree, MessageTree, Named, PackageTree, Refusal,
+    lex,
 };
 use rx_types::FieldId;
 use std::alloc::Global;
@@ -38,16 +39,28 @@ pub fn tree_of(alloc: Global, text: &str) -> Result<PackageTree, Fail> {
     Ok(tree)
 }
 
+/// Whether the refusal tells this name.
+pub fn tells(refusal: &Refusal, name: &str) -> bool {
+    match &refusal.word {
+        Some(word) => word.is_written(name),
+        None => false,
+    }
+}
+
 // The number and the place of the refusal, which tells this name; None where there is none.
 pub fn told(outcome: Result<(), Fault>, name: &str) -> Result<Option<(u8, u32, u32)>, Fail> {
     match outcome {
         Ok(()) => Ok(None),
         Err(Fault::NoMemory) => Err(Fail::new("no memory")),
         Err(Fault::Refused(refusal)) => {
-            if !refusal.name.is_written(name) {
+            if !tells(&refusal, name) {
                 return Err(Fail::new("another name is told"));
             }
-            Ok(Some((refusal.number, refusal.place.line, refusal.place.column)))
+            Ok(Some((
+                refusal.rule.number(),
+                refusal.place.line,
+                refusal.place.column,
+            )))
         }
     }
 }

@@ -1,5 +1,5 @@
 //! What buffers are of a message: JSON, or the reason and the field where the longest path stops.
-use crate::worked::{message_of, plan_of, spec_of};
+use crate::worked::{known, message_of, plan_of, spec_of};
 use rx_decode::{Decoded, decode};
 use rx_types::{Reason, Stuck};
 use std::alloc::Global;
@@ -17,7 +17,7 @@ fn answer(alloc: Global, bytes: &[u8]) -> Result<Decoded, Fail> {
     let spec = spec_of(alloc, BOX)?;
     let message = message_of(&spec)?;
     let plan = plan_of(alloc, &spec, message)?;
-    let decoded = decode(alloc, message, &spec, &plan, bytes)?;
+    let decoded = decode(alloc, &known(&spec, message), &plan, bytes)?;
     Ok(decoded)
 }
 

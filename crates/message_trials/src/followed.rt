@@ -8,7 +8,6 @@ ghost use Rattle.rx_graph.specs.Graph.{arrow_of, domains_of, graph_of, type_of, 
 ghost use Rattle.rx_graph.specs.Paths.{first_of, size_of_target, HasNumber, LiesWithin, Places, Leads, IsPartial};
 
 use crate::evaluated::{evaluated, is_true};
-use rx_forms::scalar_type;
 use rx_graph::{Link, Message, Node, Spec};
 use rx_types::{Entry, Env, FieldId, ScalarType, contains};
 
@@ -16,7 +15,10 @@ use rx_types::{Entry, Env, FieldId, ScalarType, contains};
 pub fn scalar_of<'a>(message: &Message, spec: &'a Spec, field: FieldId) -> Option<&'a ScalarType>
     ensures { MatchOption result (type_of (domains_of spec.now) (graph_of message.now) field ≡ None) (λ t. type_of (domains_of spec.now) (graph_of message.now) field ≡ Some (domain_of t.now)) }
 {
-    scalar_type(message, spec.scalars.as_slice(), field)
+    match rx_graph::scalar_of(spec.scalars.as_slice(), message, field) {
+        Some(scalar) => Some(scalar),
+        None => None,
+    }
 }
 
 /// Whether two nodes are one.

@@ -1,5 +1,5 @@
 //! The goals of a message, in the order in which their checks are told.
-use crate::worked::{message_of, spec_of};
+use crate::worked::{known, message_of, spec_of};
 use rx_graph::Node;
 use rx_layout::{Goal, goals};
 use std::test::Fail;
@@ -26,7 +26,7 @@ fn goals_come_by_check_and_then_by_node(rt: HostRuntime) -> Result<(), Fail> {
         Goal::Whole(Node::Start, 2),
         Goal::Whole(Node::At(0), 1),
     ];
-    let listed = goals(rt.alloc(), message, &spec)?;
+    let listed = goals(rt.alloc(), &known(&spec, message))?;
     assert_eq!(rt; listed.as_slice(), wanted.as_slice());
     Ok(())
 }

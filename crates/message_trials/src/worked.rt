@@ -3,13 +3,14 @@ ghost use Rattle.std.specs.Prelude.{◌≡◌, Some, IfOk, map, slice_get};
 ghost use Rattle.std.specs.List.{AllByRecursion};
 ghost use Rattle.rx_types.specs.Domain.{Domain, boolean};
 ghost use Rattle.rx_graph.specs.Graph.{domains_of, graph_of};
+ghost use Rattle.rx_graph.specs.Typed.{typed, HasBoolean};
 ghost use Rattle.rx_forms.specs.PathLimit.{MayBeChecked};
 ghost use Rattle.rx_draft.specs.Drafts.{StandsForSound, IsSoundPlan};
 
 use rx_checks::{accepted, check, reports_show_soundness};
-use rx_context::{Plan, sound_messages_may_be_planned};
+use rx_context::Plan;
 use rx_grammar::parse_package;
-use rx_graph::{Message, Path, Spec, paths};
+use rx_graph::{Elaborated, Message, Path, Sound, Spec, paths};
 use rx_judge::spelled;
 use rx_spec::elaborate;
 use rx_syntax::{PackageTree, lex};
@@ -68,6 +69,15 @@ pub fn paths_of(alloc: Global, spec: &Spec, message: &Message) -> Result<Vec<Pat
     Ok(paths(alloc, message)?)
 }
 
+/// A message with its scalar types.
+pub fn known<'s>(spec: &'s Spec, message: &'s Message) -> Elaborated<'s>
+    requires message { MayBeChecked (domains_of spec.now) (graph_of message.now) }
+    requires boolean { HasBoolean (domains_of spec.now) }
+    ensures { result ≡ typed (domains_of spec.now) (graph_of message.now) }
+{
+    Elaborated::over(spec, message)
+}
+
 /// The plan of a message whose checks pass.
 pub fn plan_of(alloc: Global, spec: &Spec, message: &Message) -> Result<Plan, Fail>
     requires message { MayBeChecked (domains_of spec.now) (graph_of message.now) }
@@ -75,10 +85,11 @@ pub fn plan_of(alloc: Global, spec: &Spec, message: &Message) -> Result<Plan, Fa
     ensures { IfOk result (λ plan. StandsForSound (domains_of spec.now) (graph_of message.now) plan) }
 {
     let report = check(alloc, message, spec, 1024)?;
-    reports_show_soundness(spec, message);
+    let elaborated = known(spec, message);
+    reports_show_soundness(&elaborated);
     if accepted(&report) {
-        sound_messages_may_be_planned(spec, message);
-        let plan = Plan::make(alloc, message, spec)?;
+        let sound = Sound::over(spec, message);
+        let plan = Plan::of(alloc, &sound)?;
         Ok(plan)
     } else {
         Err(Fail::new("a check does not pass"))

@@ -14,7 +14,7 @@ use Rattle.rx_graph.specs.Elaborated.{IsElaborated, IsSound}
 use Rattle.rx_graph.specs.Fits.{Fits}
 use Rattle.rx_graph.proofs.Lengths.{length_fits}
 use Rattle.rx_graph.proofs.OneFit.{one_fit}
-use Rattle.rx_graph.proofs.Sound.{exclusive_from_checks}
+use Rattle.rx_graph.proofs.Exclusions.{exclusive_from_checks}
 use Rattle.rx_graph.proofs.Unique.{one_path}
 use Rattle.rx_forms.specs.Steps.{AreFormable, AreNarrow}
 use Rattle.rx_proof.specs.declared.proof.Proof.{Proof}

@@ -5,11 +5,8 @@
 --   IsNatural limit z            a number that is not below 0 and below the limit
 --   TellsNumbers path total numbers e    the evidence is this path with this length and these numbers
 --   IsFirstPoint paths found     no path is at a point, or this is the verdict by the first one, behind a path without a point
---   scalar_in domains kind       the scalar type of a field of this kind, if it is a scalar
-use Rattle.std.specs.Prelude.{◌≡◌, ◌≢◌, ◌<◌, ℕ, ℤ, pos, Bool, true, false, List, ◌∷◌, map, Option, Some, None, slice_get}
+use Rattle.std.specs.Prelude.{◌≡◌, ◌≢◌, ◌<◌, ℕ, ℤ, pos, Bool, true, false, List, ◌∷◌, map, Option, Some, None}
 use Rattle.std.specs.List.{AllByRecursion}
-use Rattle.rx_types.specs.declared.scalar.FieldType.{FieldType}
-use Rattle.rx_types.specs.declared.scalar.FieldType.TheVariants.{Scalar, Opaque, Sequence}
 use Rattle.rx_types.specs.Domain.{Domain}
 use Rattle.rx_types.specs.Environment.{Placed}
 use Rattle.rx_graph.specs.Graph.{Graph}
@@ -43,11 +40,6 @@ IsNatural limit z = (n : ℕ) × (z ≡ pos n) × (n < limit)
 abbrev pub TellsNumbers : List ℕ → ℤ → List ℤ → Evidence → Type 0
 TellsNumbers path total numbers (Proofs proofs) = ⊥
 TellsNumbers path total numbers (Found p n ns) = (p ≡ path) × (pos n ≡ total) × (map (λ k. pos k) ns.items ≡ numbers)
-
-abbrev pub scalar_in : List Domain → FieldType → Option Domain
-scalar_in domains (Scalar t) = slice_get domains t
-scalar_in domains Opaque = None
-scalar_in domains (Sequence t) = None
 
 module _ (domains : List Domain) (m : Graph) (splits : ℕ) (goal : Goal) where
   abbrev pub IsFirstPoint : List (List ℕ) → Option Verdict → Type 0

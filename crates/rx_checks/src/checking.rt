@@ -15,8 +15,10 @@ use crate::fault::NoMemory;
 use crate::judging::judge;
 use crate::report::{Line, Report};
 use crate::table::{NodePaths, paths_by_node, place_of};
+use rx_forms::Checkable;
 use rx_graph::{Message, Node, Spec};
 use rx_layout::{Goal, goals, goals_are_listed};
+use rx_prover::Splits;
 use std::alloc::Global;
 
 /// A verdict on each check of a message, with what shows it. The walk of a query may take 1 to 4,096 splits.
@@ -27,55 +29,55 @@ pub fn check(alloc: Global, message: &Message, spec: &Spec, splits: u32) -> Resu
     requires few { (1 ≤ splits) × (splits ≤ 4096) }
     ensures { IfOk result (IsReport (domains_of spec.now) (graph_of message.now) splits) }
 {
-    goals_are_listed(spec, message);
-    let goals = goals(alloc, message, spec)?;
-    let lines = lines_of(alloc, message, spec, splits, &goals)?;
+    let message = Checkable::over(spec, message);
+    let splits = Splits::of(splits);
+    report_of(alloc, &message, splits)
+}
+
+/// A verdict on each check of a message that can be checked, with what shows it.
+pub fn report_of(alloc: Global, message: &Checkable<'_>, splits: Splits) -> Result<Report, NoMemory>
+    ensures { IfOk result (IsReport message.now.domains message.now.graph splits) }
+{
+    let known = message.elaborated();
+    goals_are_listed(known);
+    let goals = goals(alloc, known)?;
+    let lines = lines_of(alloc, message, splits, &goals)?;
     Ok(Report { lines })
 }
 
 /// A line for each goal.
 fn lines_of(
     alloc: Global,
-    message: &Message,
-    spec: &Spec,
-    splits: u32,
+    message: &Checkable<'_>,
+    splits: Splits,
     goals: &[Goal],
 ) -> Result<Vec<Line>, NoMemory>
-    requires elaborated { IsElaborated (domains_of spec.now) (graph_of message.now) }
-    requires boolean { (d : Domain) → slice_get (domains_of spec.now) 0 ≡ Some d → d ≡ boolean }
-    requires limit { KeepsLimit (domains_of spec.now) (graph_of message.now) }
-    requires few { (1 ≤ splits) × (splits ≤ 4096) }
-    requires goals { AllByRecursion (IsGoal (domains_of spec.now) (graph_of message.now)) goals.now }
+    requires goals { AllByRecursion (IsGoal message.now.domains message.now.graph) goals.now }
     ensures goals { IfOk result (λ lines. map (λ line. line.goal) lines.items ≡ goals.now) }
-    ensures stand { IfOk result (λ lines. AllByRecursion (λ line. StandsFor (domains_of spec.now) (graph_of message.now) splits line.goal line.verdict) lines.items) }
+    ensures stand { IfOk result (λ lines. AllByRecursion (λ line. StandsFor message.now.domains message.now.graph splits line.goal line.verdict) lines.items) }
 {
-    let table = paths_by_node(alloc, message, spec)?;
-    let lines = lines_by(alloc, message, spec, splits, goals, &table)?;
+    let table = paths_by_node(alloc, message.elaborated())?;
+    let lines = lines_by(alloc, message, splits, goals, &table)?;
     Ok(lines)
 }
 
 /// A line for each goal, with the paths to each node.
 fn lines_by(
     alloc: Global,
-    message: &Message,
-    spec: &Spec,
-    splits: u32,
+    message: &Checkable<'_>,
+    splits: Splits,
     goals: &[Goal],
     table: &[NodePaths],
 ) -> Result<Vec<Line>, NoMemory>
-    requires elaborated { IsElaborated (domains_of spec.now) (graph_of message.now) }
-    requires boolean { (d : Domain) → slice_get (domains_of spec.now) 0 ≡ Some d → d ≡ boolean }
-    requires limit { KeepsLimit (domains_of spec.now) (graph_of message.now) }
-    requires few { (1 ≤ splits) × (splits ≤ 4096) }
-    requires goals { AllByRecursion (IsGoal (domains_of spec.now) (graph_of message.now)) goals.now }
-    requires whole { length table.now ≡ length message.now.fields.items + 1 }
-    requires paths { HavePaths (graph_of message.now) 0 table.now }
+    requires goals { AllByRecursion (IsGoal message.now.domains message.now.graph) goals.now }
+    requires whole { length table.now ≡ length message.now.graph.fields + 1 }
+    requires paths { HavePaths message.now.graph 0 table.now }
     ensures goals { IfOk result (λ lines. map (λ line. line.goal) lines.items ≡ goals.now) }
-    ensures stand { IfOk result (λ lines. AllByRecursion (λ line. StandsFor (domains_of spec.now) (graph_of message.now) splits line.goal line.verdict) lines.items) }
+    ensures stand { IfOk result (λ lines. AllByRecursion (λ line. StandsFor message.now.domains message.now.graph splits line.goal line.verdict) lines.items) }
 {
     let mut lines = Vec::new(alloc);
     for goal in goals {
-        let line = line_of(alloc, message, spec, splits, goal, table)?;
+        let line = line_of(alloc, message, splits, goal, table)?;
         lines.push(line)?;
     }
     Ok(lines)
@@ -100,24 +102,20 @@ fn source(goal: &Goal) -> Node
 /// The goal and its verdict.
 fn line_of(
     alloc: Global,
-    message: &Message,
-    spec: &Spec,
-    splits: u32,
+    message: &Checkable<'_>,
+    splits: Splits,
     goal: &Goal,
     table: &[NodePaths],
 ) -> Result<Line, NoMemory>
-    requires elaborated { IsElaborated (domains_of spec.now) (graph_of message.now) }
-    requires boolean { (d : Domain) → slice_get (domains_of spec.now) 0 ≡ Some d → d ≡ boolean }
-    requires limit { KeepsLimit (domains_of spec.now) (graph_of message.now) }
-    requires few { (1 ≤ splits) × (splits ≤ 4096) }
-    requires goal { IsGoal (domains_of spec.now) (graph_of message.now) goal.now }
-    requires whole { length table.now ≡ length message.now.fields.items + 1 }
-    requires paths { HavePaths (graph_of message.now) 0 table.now }
+    requires goal { IsGoal message.now.domains message.now.graph goal.now }
+    requires whole { length table.now ≡ length message.now.graph.fields + 1 }
+    requires paths { HavePaths message.now.graph 0 table.now }
     ensures goal { IfOk result (λ line. line.goal ≡ goal.now) }
-    ensures stands { IfOk result (λ line. StandsFor (domains_of spec.now) (graph_of message.now) splits goal.now line.verdict) }
+    ensures stands { IfOk result (λ line. StandsFor message.now.domains message.now.graph splits goal.now line.verdict) }
 {
-    let place = place_of(message, spec, source(goal));
-    let verdict = judge(alloc, message, spec, splits, goal, &table[place].paths)?;
+    message.is_checkable();
+    let place = place_of(message, source(goal));
+    let verdict = judge(alloc, message, splits, goal, &table[place].paths)?;
     Ok(Line {
         goal: *goal,
         verdict,

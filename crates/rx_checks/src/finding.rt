@@ -1,12 +1,9 @@
 //! The length and the numbers of a point.
 
-ghost use Rattle.std.specs.Prelude.{◌≡◌, ◌<◌, ◌^◌, pos, map, take, drop, length, Some, IfOk, slice_get, slice_index_or};
+ghost use Rattle.std.specs.Prelude.{◌≡◌, ◌<◌, ◌^◌, pos, map, take, drop, length, IfOk, slice_index_or};
 ghost use Rattle.std.specs.List.{AllByRecursion};
-ghost use Rattle.rx_types.specs.Domain.{Domain, boolean};
 ghost use Rattle.rx_graph.specs.declared.message.Node.TheVariants.{Start};
 ghost use Rattle.rx_graph.specs.Cycles.{IsPath};
-ghost use Rattle.rx_graph.specs.Elaborated.{IsElaborated};
-ghost use Rattle.rx_graph.specs.Graph.{domains_of, graph_of};
 ghost use Rattle.rx_layout.specs.Goals.{source, IsGoal};
 ghost use Rattle.rx_layout.specs.Laws.{IsPoint};
 ghost use Rattle.rx_layout.specs.QueryOf.{query_for};
@@ -15,7 +12,7 @@ ghost use Rattle.rx_checks.specs.Told.{IsEvidence, TellsNumbers, IsNatural};
 use crate::counting::scalars_along;
 use crate::fault::NoMemory;
 use crate::verdict::Evidence;
-use rx_graph::{Message, Path, Spec};
+use rx_graph::{Elaborated, Path};
 use rx_layout::{Goal, points_meet_goals};
 use std::alloc::Global;
 
@@ -87,20 +84,18 @@ fn numbered_at(
 /// The length and the numbers of the path's scalars at a point of its query.
 pub(crate) fn evidence_at(
     alloc: Global,
-    message: &Message,
-    spec: &Spec,
+    message: &Elaborated<'_>,
     goal: &Goal,
     path: &Path,
     point: &[i128],
 ) -> Result<Evidence, NoMemory>
-    requires elaborated { IsElaborated (domains_of spec.now) (graph_of message.now) }
-    requires boolean { (d : Domain) → slice_get (domains_of spec.now) 0 ≡ Some d → d ≡ boolean }
-    requires goal { IsGoal (domains_of spec.now) (graph_of message.now) goal.now }
-    requires path { IsPath (graph_of message.now) Start path.now (source goal.now) }
-    requires point { IsPoint (query_for (domains_of spec.now) (graph_of message.now) goal.now path.now) point.now }
-    ensures { IfOk result (IsEvidence (domains_of spec.now) (graph_of message.now) goal.now path.now) }
+    requires goal { IsGoal message.now.domains message.now.graph goal.now }
+    requires path { IsPath message.now.graph Start path.now (source goal.now) }
+    requires point { IsPoint (query_for message.now.domains message.now.graph goal.now path.now) point.now }
+    ensures { IfOk result (IsEvidence message.now.domains message.now.graph goal.now path.now) }
 {
-    points_meet_goals(spec, message);
-    let count = scalars_along(path.links(), message, spec);
+    message.is_known();
+    points_meet_goals(message);
+    let count = scalars_along(path.links(), message);
     numbered_at(alloc, path, point, count)
 }

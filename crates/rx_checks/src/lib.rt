@@ -14,7 +14,7 @@ mod table;
 mod verdict;
 
 pub use acceptance::accepted;
-pub use checking::check;
+pub use checking::{check, report_of};
 pub use fault::NoMemory;
 pub use laws::{
     reports_are_one, reports_show_one_reading, reports_show_soundness, sound_messages_pass,

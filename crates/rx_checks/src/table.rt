@@ -2,13 +2,12 @@
 
 ghost use Rattle.std.specs.Prelude.{◌≡◌, ◌≤◌, ◌+◌, length, IfOk};
 ghost use Rattle.rx_graph.specs.Cycles.{ArePathsTo};
-ghost use Rattle.rx_graph.specs.Elaborated.{IsElaborated, IsSource};
-ghost use Rattle.rx_graph.specs.Graph.{domains_of, graph_of};
+ghost use Rattle.rx_graph.specs.Elaborated.{IsSource};
 ghost use Rattle.rx_checks.specs.Table.{node_at, HavePaths};
 
 use crate::fault::NoMemory;
-use rx_forms::paths_to_nodes_are_few;
-use rx_graph::{Message, Node, Path, PathFault, Spec, paths_make_one_list, paths_to};
+use rx_forms::Checkable;
+use rx_graph::{Elaborated, Node, Path, PathFault, paths_make_one_list, paths_to};
 use std::alloc::Global;
 
 /// The paths to one node, in order of their link numbers.
@@ -30,10 +29,10 @@ fn node_at(place: usize) -> Node
 }
 
 /// The place of a node from which links lead.
-pub(crate) fn place_of(message: &Message, spec: &Spec, node: Node) -> usize
-    requires { IsSource (domains_of spec.now) (graph_of message.now) node }
+pub(crate) fn place_of(message: &Checkable<'_>, node: Node) -> usize
+    requires { IsSource message.now.domains message.now.graph node }
     ensures place { node_at result ≡ node }
-    ensures within { result ≤ length message.now.fields.items }
+    ensures within { result ≤ length message.now.graph.fields }
 {
     match node {
         Node::Start => 0,
@@ -43,18 +42,13 @@ pub(crate) fn place_of(message: &Message, spec: &Spec, node: Node) -> usize
 }
 
 /// All paths to a node.
-fn paths_at(
-    alloc: Global,
-    message: &Message,
-    spec: &Spec,
-    node: Node,
-) -> Result<NodePaths, NoMemory>
-    requires { IsElaborated (domains_of spec.now) (graph_of message.now) }
-    ensures { IfOk result (λ entry. ArePathsTo (graph_of message.now) node entry.paths.items) }
+fn paths_at(alloc: Global, message: &Elaborated<'_>, node: Node) -> Result<NodePaths, NoMemory>
+    ensures { IfOk result (λ entry. ArePathsTo message.now.graph node entry.paths.items) }
 {
-    paths_make_one_list(message);
-    paths_to_nodes_are_few(spec, message);
-    match paths_to(alloc, message, node) {
+    message.is_known();
+    let graph = message.message();
+    paths_make_one_list(graph);
+    match paths_to(alloc, graph, node) {
         Ok(paths) => Ok(NodePaths { paths }),
         Err(PathFault::NoMemory) => Err(NoMemory),
         Err(PathFault::TooManyPaths) => unreachable!(),
@@ -64,16 +58,14 @@ fn paths_at(
 /// The paths to the start, and to each field.
 pub(crate) fn paths_by_node(
     alloc: Global,
-    message: &Message,
-    spec: &Spec,
+    message: &Elaborated<'_>,
 ) -> Result<Vec<NodePaths>, NoMemory>
-    requires { IsElaborated (domains_of spec.now) (graph_of message.now) }
-    ensures whole { IfOk result (λ table. length table.items ≡ length message.now.fields.items + 1) }
-    ensures paths { IfOk result (λ table. HavePaths (graph_of message.now) 0 table.items) }
+    ensures whole { IfOk result (λ table. length table.items ≡ length message.now.graph.fields + 1) }
+    ensures paths { IfOk result (λ table. HavePaths message.now.graph 0 table.items) }
 {
     let mut table = Vec::new(alloc);
-    for place in 0..message.fields.len() + 1 {
-        let entry = paths_at(alloc, message, spec, node_at(place))?;
+    for place in 0..message.fields().len() + 1 {
+        let entry = paths_at(alloc, message, node_at(place))?;
         table.push(entry)?;
     }
     Ok(table)

@@ -7,8 +7,6 @@
 --   IsPlan p                  there is a message for which it stands
 --   IsKnown p e               and its expressions have values in this environment
 use Rattle.std.specs.Prelude.{◌≡◌, ℕ, ◌+◌, ◌<◌, ◌≤◌, List, Option, Some, None, slice_get}
-use Rattle.rx_types.specs.declared.scalar.FieldType.{FieldType}
-use Rattle.rx_types.specs.declared.scalar.FieldType.TheVariants.{Scalar, Opaque, Sequence}
 use Rattle.rx_types.specs.declared.scalar.ScalarType.{ScalarType}
 use Rattle.rx_types.specs.Domain.{Domain, domain_of}
 use Rattle.rx_types.specs.Environment.{Environment}
@@ -40,12 +38,6 @@ domain_if_any (Some t) = Some (domain_of t)
 abbrev pub kind_if_any : Option (Option ScalarType) → Option Domain
 kind_if_any None = None
 kind_if_any (Some kind) = domain_if_any kind
-
--- the scalar type of a field that holds a scalar
-abbrev pub scalar_in : List Domain → FieldType → Option Domain
-scalar_in domains (Scalar t) = slice_get domains t
-scalar_in domains Opaque = None
-scalar_in domains (Sequence t) = None
 
 -- these are the types of the message's fields
 abbrev pub KeepsTypes : List Domain → Graph → List (Option ScalarType) → Type 0

@@ -1,4 +1,4 @@
-// Where the link that is taken leads.
+//! Where the link that is taken leads.
 
 ghost use Rattle.std.specs.Prelude.{◌≡◌, ℕ, ◌+◌, ◌*◌, ◌≤◌, ◌^◌, List, slice_get, IfSome, IfNone, pos, ◌<ℤ◌};
 ghost use Rattle.std.specs.Option.{option_copied};
@@ -13,7 +13,7 @@ ghost use Rattle.rx_context.specs.Plan.{planned, domain_if_any, StandsFor, IsKno
 ghost use Rattle.rx_context.specs.Steps.{IsTaken};
 ghost use Rattle.rx_context.specs.declared.advance.Taken.TheVariants.{Short};
 
-use crate::kept::{Kept, is_same};
+use crate::kept::Kept;
 use rx_graph::{Link, Node};
 use rx_types::{Entry, Env, FieldId, ScalarType, truth, value};
 
@@ -65,7 +65,7 @@ fn taken_link<'p>(kept: &'p Kept, at: Node, env: &Env) -> Option<&'p Link>
     let links = kept.message.links.as_slice();
     for index in found.from..found.end.min(links.len()) {
         let link = &links[index];
-        if is_same(link.source, at) && truth(&link.condition, env) {
+        if link.source.is(at) && truth(&link.condition, env) {
             return Some(link);
         }
     }

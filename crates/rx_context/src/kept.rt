@@ -1,6 +1,6 @@
-// What a plan keeps of a message.
+//! What a plan keeps of a message.
 
-ghost use Rattle.std.specs.Prelude.{◌≡◌, IsTrue, ◌↔◌};
+ghost use Rattle.std.specs.Prelude.{◌≡◌};
 ghost use Rattle.std.specs.Option.{option_copied};
 ghost use Rattle.rx_context.specs.Plan.{planned, slot_of, kept_type, domain_if_any, span_at};
 
@@ -53,17 +53,5 @@ fn slot(at: Node) -> usize
         Node::Start => 0,
         Node::At(field) => field as usize + 1,
         Node::Null => 0,
-    }
-}
-
-/// Whether two nodes are one.
-pub fn is_same(left: Node, right: Node) -> bool
-    ensures { IsTrue result ↔ (left ≡ right) }
-{
-    match (left, right) {
-        (Node::Start, Node::Start) => true,
-        (Node::At(one), Node::At(other)) => one == other,
-        (Node::Null, Node::Null) => true,
-        _ => false,
     }
 }

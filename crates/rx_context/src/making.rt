@@ -1,36 +1,52 @@
-// What a plan keeps, made of a message and its specification.
+//! What a plan keeps, made of a message and its scalar types.
 
 ghost use Rattle.std.specs.Prelude.{◌≡◌, ◌+◌, ◌<◌, ◌^◌, Some, IfOk};
 ghost use Rattle.rx_graph.specs.Elaborated.{IsElaborated};
-ghost use Rattle.rx_graph.specs.Graph.{arrows, domains_of, graph_of, scalar_of, type_of};
-ghost use Rattle.rx_context.specs.Plan.{domain_if_any, kind_if_any, AreSpans, IsSpanOf, KeepsTypes};
+ghost use Rattle.rx_graph.specs.Graph.{arrows, domains_in, graph_of, scalar_of};
+ghost use Rattle.rx_context.specs.Plan.{domain_if_any, planned, AreSpans, IsSpanOf, KeepsTypes, MayBePlanned, StandsFor};
 
 use crate::fault::NoMemory;
-use crate::kept::{Kept, Span, is_same};
-use rx_graph::{Field, Link, Message, Node, Spec};
+use crate::kept::{Kept, Span};
+use rx_graph::{Field, Link, Message, Node, Scalar};
 use rx_types::{FieldType, ScalarType};
 use std::alloc::Global;
 
-/// The scalar type of each field of the message that is a scalar.
-pub fn kinds_of(
+/// What a plan keeps of a message.
+pub fn kept_of(alloc: Global, message: &Message, scalars: &[Scalar]) -> Result<Kept, NoMemory>
+    requires { MayBePlanned (domains_in scalars.now) (graph_of message.now) }
+    ensures { IfOk result (λ kept. StandsFor (domains_in scalars.now) (graph_of message.now) (planned kept)) }
+{
+    let kinds = kinds_of(alloc, message, scalars)?;
+    let spans = spans_of(alloc, message, scalars)?;
+    let message = message.copy(alloc)?;
+    Ok(Kept {
+        message,
+        kinds,
+        spans,
+    })
+}
+
+// The scalar type of each field of the message that is a scalar.
+fn kinds_of(
     alloc: Global,
     message: &Message,
-    spec: &Spec,
+    scalars: &[Scalar],
 ) -> Result<Vec<Option<ScalarType>>, NoMemory>
-    ensures { IfOk result (λ kinds. KeepsTypes (domains_of spec.now) (graph_of message.now) kinds.items) }
+    ensures { IfOk result (λ kinds. KeepsTypes (domains_in scalars.now) (graph_of message.now) kinds.items) }
 {
     let mut kinds = Vec::new(alloc);
     for field in message.fields.as_slice() {
-        kinds.push(kind_of(alloc, spec, field)?)?;
+        kinds.push(kind_of(alloc, scalars, field)?)?;
     }
     Ok(kinds)
 }
 
-fn kind_of(alloc: Global, spec: &Spec, field: &Field) -> Result<Option<ScalarType>, NoMemory>
-    ensures { IfOk result (λ kind. domain_if_any kind ≡ scalar_of (domains_of spec.now) (Some field.now)) }
+// The field's scalar type, if it is a scalar.
+fn kind_of(alloc: Global, scalars: &[Scalar], field: &Field) -> Result<Option<ScalarType>, NoMemory>
+    ensures { IfOk result (λ kind. domain_if_any kind ≡ scalar_of (domains_in scalars.now) (Some field.now)) }
 {
     match field.kind {
-        FieldType::Scalar(id) => match spec.scalars.get(id as usize) {
+        FieldType::Scalar(id) => match scalars.get(id as usize) {
             Some(scalar) => {
                 let kind = scalar.kind.copy(alloc)?;
                 Ok(Some(kind))
@@ -42,9 +58,9 @@ fn kind_of(alloc: Global, spec: &Spec, field: &Field) -> Result<Option<ScalarTyp
     }
 }
 
-/// Where the links of the start and of each field stand.
-pub fn spans_of(alloc: Global, message: &Message, spec: &Spec) -> Result<Vec<Span>, NoMemory>
-    requires { IsElaborated (domains_of spec.now) (graph_of message.now) }
+// Where the links of the start and of each field stand.
+fn spans_of(alloc: Global, message: &Message, scalars: &[Scalar]) -> Result<Vec<Span>, NoMemory>
+    requires { IsElaborated (domains_in scalars.now) (graph_of message.now) }
     ensures { IfOk result (λ spans. AreSpans (arrows message.now.links.items) spans.items) }
 {
     let links = message.links.as_slice();
@@ -62,7 +78,7 @@ fn span_of(links: &[Link], node: Node) -> Span
 {
     let mut span = Span { from: 0, end: 0 };
     for index in 0..links.len() {
-        if is_same(links[index].source, node) {
+        if links[index].source.is(node) {
             span = widened(span, index);
         }
     }

@@ -1,4 +1,4 @@
-// Plans: what is kept of a message to decode by.
+//! Plans: what is kept of a message to decode by.
 
 ghost use Rattle.std.specs.Prelude.{◌≡◌, IfOk};
 ghost use Rattle.rx_graph.specs.Graph.{domains_of, graph_of};
@@ -6,8 +6,9 @@ ghost use Rattle.rx_context.specs.Plan.{planned, IsPlan, MayBePlanned, StandsFor
 
 use crate::fault::NoMemory;
 use crate::kept::Kept;
-use crate::making::{kinds_of, spans_of};
-use rx_graph::{Message, Spec};
+use crate::laws::sound_messages_may_be_planned;
+use crate::making::kept_of;
+use rx_graph::{Message, Sound, Spec};
 use std::alloc::Global;
 use std::marker::Model;
 
@@ -39,16 +40,18 @@ impl Plan {
         requires may { MayBePlanned (domains_of spec.now) (graph_of message.now) }
         ensures { IfOk result (λ plan. StandsFor (domains_of spec.now) (graph_of message.now) plan) }
     {
-        let kinds = kinds_of(alloc, message, spec)?;
-        let spans = spans_of(alloc, message, spec)?;
-        let message = message.copy(alloc)?;
-        Ok(Plan {
-            kept: Kept {
-                message,
-                kinds,
-                spans,
-            },
-        })
+        let kept = kept_of(alloc, message, spec.scalars.as_slice())?;
+        Ok(Plan { kept })
+    }
+
+    /// The plan of a message whose checks all hold.
+    pub fn of(alloc: Global, message: &Sound<'_>) -> Result<Plan, NoMemory>
+        ensures { IfOk result (λ plan. StandsFor message.now.domains message.now.graph plan) }
+    {
+        sound_messages_may_be_planned(message);
+        let message = message.elaborated();
+        let kept = kept_of(alloc, message.message(), message.scalars())?;
+        Ok(Plan { kept })
     }
 
     // What the plan keeps.

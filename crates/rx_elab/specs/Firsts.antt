@@ -1,13 +1,16 @@
 -- The First of a field or a link: its two forms, and the fields over which the links to a field lay it.
 --   has_first_form s owner e   `X'First`, or `X'Last + K` with a static number K from 1 on
 --   laid s e                   the field over which a First lays its target: X of `X'First`
+--   unlaid s e                 Y of a First `Y'First` where Y is no field, as it is written
 --   way_first m w              the First of a link: that of its clause, or else that of its target
---   layings_of s m ways        where each link leads, and over which field it lays its target
+--   layings_of s m ways        where each link leads, and over which field it lays its target, or over what else
 --   is_mixed ls i x            some link to field i does not lay it over x
+--   is_mixed_name ls i w       some link to field i has no First over this name
 --   overlay_in ls i            the field over which all links to field i lay it, if there is one
 use Rattle.std.specs.Prelude.{ℕ, ◌==◌, Bool, true, false, not, ◌&&◌, List, [], ◌∷◌, map, find, Option, Some, None, Ok, Err, slice_get, pos, int_le, if◌then◌else◌}
 use Rattle.std.specs.List.{list_any}
 use Rattle.std.specs.Option.{option_or}
+use Rattle.rx_syntax.specs.declared.tree.Named.{Named}
 use Rattle.rx_syntax.specs.declared.tree.NameTree.{NameTree}
 use Rattle.rx_syntax.specs.declared.tree.Attr.TheVariants as attr
 use Rattle.rx_syntax.specs.declared.tree.Operator.TheVariants as token
@@ -19,7 +22,7 @@ use Rattle.rx_syntax.specs.declared.tree.ThenTree.{ThenTree}
 use Rattle.rx_syntax.specs.declared.tree.FieldTree.{FieldTree}
 use Rattle.rx_syntax.specs.declared.tree.MessageTree.{MessageTree}
 use Rattle.rx_judge.specs.Meaning.{Meaning, ◌>>=◌}
-use Rattle.rx_judge.specs.Names.{Scope, Within, thing_of}
+use Rattle.rx_judge.specs.Names.{Scope, Within, same, thing_of}
 use Rattle.rx_judge.specs.Judged.{Typed, judged, is_message}
 use Rattle.rx_judge.specs.declared.names.Thing.{Thing}
 use Rattle.rx_judge.specs.declared.names.Thing.TheVariants as thing
@@ -27,6 +30,7 @@ use Rattle.rx_links.specs.Cycle.{clauses_of, clause_of}
 use Rattle.rx_links.specs.declared.links.Stop.{Stop}
 use Rattle.rx_links.specs.declared.links.Stop.TheVariants as stop
 use Rattle.rx_links.specs.declared.links.Way.{Way}
+use Rattle.rx_elab.specs.declared.firsts.Written.{Written}
 use Rattle.rx_elab.specs.declared.layings.Laying.{Laying}
 
 -- ---- forms
@@ -91,6 +95,45 @@ abbrev pub laid_if_any : Scope → Option ExprTree → Option ℕ
 laid_if_any s None = None
 laid_if_any s (Some e) = laid s e
 
+-- ---- names that stand for no field
+
+abbrev pub package_written : Option Named → Option (List ℕ)
+package_written None = None
+package_written (Some q) = Some q.word
+
+-- a name as it is written
+abbrev pub name_written : NameTree → Written
+name_written n = record { «package» = package_written n.«package»; name = n.name.word }
+
+abbrev pub written_unless : NameTree → Option ℕ → Option Written
+written_unless n None = Some (name_written n)
+written_unless n (Some f) = None
+
+-- Y of a First `Y'First` where Y is no field, as it is written
+abbrev pub unlaid : Scope → ExprTree → Option Written
+unlaid s (tree.Attribute n attr.First) = written_unless n (field_if_any (field_of_name s n))
+unlaid s e = None
+
+abbrev pub unlaid_if_any : Scope → Option ExprTree → Option Written
+unlaid_if_any s None = None
+unlaid_if_any s (Some e) = unlaid s e
+
+abbrev pub same_package : Option (List ℕ) → Option (List ℕ) → Bool
+same_package None None = true
+same_package None (Some q) = false
+same_package (Some p) None = false
+same_package (Some p) (Some q) = same p q
+
+-- the same name but for ASCII case
+abbrev pub is_written : Written → Written → Bool
+is_written w v = same_package w.«package» v.«package» && same w.name v.name
+
+abbrev pub is_written_so : Written → Option Written → Bool
+is_written_so w None = false
+is_written_so w (Some v) = is_written w v
+
+-- ---- links
+
 -- the First among aspects; a second one of a list is refused before
 abbrev pub first_from : Option ExprTree → List AspectTree → Option ExprTree
 first_from o [] = o
@@ -116,9 +159,9 @@ target_first fields s = None
 abbrev pub way_first : MessageTree → Way → Option ExprTree
 way_first m w = option_or (clause_first (clause_of (clauses_of m.start.items m.fields.items w.source) w.clause)) (target_first m.fields.items w.target)
 
--- where a link leads, and over which field it lays its target
+-- where a link leads, and over which field it lays its target, or over what else
 abbrev pub laying_of : Scope → MessageTree → Way → Laying
-laying_of s m w = record { target = w.target; over = laid_if_any s (way_first m w) }
+laying_of s m w = record { target = w.target; over = laid_if_any s (way_first m w); beside = unlaid_if_any s (way_first m w) }
 
 abbrev pub layings_of : Scope → MessageTree → List Way → List Laying
 layings_of s m ways = map (laying_of s m) ways
@@ -137,6 +180,13 @@ lays_otherwise i x l = is_at i l.target && not (is_over x l.over)
 
 abbrev pub is_mixed : List Laying → ℕ → ℕ → Bool
 is_mixed ls i x = list_any (lays_otherwise i x) ls
+
+-- the link leads to field i, and has no First over this name
+abbrev pub writes_otherwise : ℕ → Written → Laying → Bool
+writes_otherwise i w l = is_at i l.target && not (is_written_so w l.beside)
+
+abbrev pub is_mixed_name : List Laying → ℕ → Written → Bool
+is_mixed_name ls i w = list_any (writes_otherwise i w) ls
 
 abbrev pub unless_mixed : List Laying → ℕ → Option ℕ → Option ℕ
 unless_mixed ls i None = None

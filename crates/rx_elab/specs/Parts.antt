@@ -1,8 +1,8 @@
 -- What is written at the fields and links of a message: their conditions and aspects, in order of text.
 --   Parts                      a condition, a First and a Size, each if it is written
---   first_stands               18 where a First has neither form, and 17 where its target's overlay is mixed, at the aspect's name
+--   first_stands               OverlayMixed where its target's overlay is mixed, and FirstForm where a First has neither form, at the aspect's name
 --   message_parts s ls owner m    those of the links of the start, and of the fields and their links; links lay their targets so
-use Rattle.std.specs.Prelude.{ℕ, Bool, true, false, not, List, [], Option, Some, None, Ok, codes, map, if◌then◌else◌}
+use Rattle.std.specs.Prelude.{ℕ, Bool, true, false, not, ◌||◌, List, [], Option, Some, None, Ok, codes, map, if◌then◌else◌}
 use Rattle.rx_syntax.specs.declared.token.Place.{Place}
 use Rattle.rx_syntax.specs.declared.tree.ExprTree.{ExprTree}
 use Rattle.rx_syntax.specs.declared.tree.ExprTree.TheVariants as tree
@@ -11,6 +11,7 @@ use Rattle.rx_syntax.specs.declared.tree.AspectTree.TheVariants as aspect
 use Rattle.rx_syntax.specs.declared.tree.ThenTree.{ThenTree}
 use Rattle.rx_syntax.specs.declared.tree.FieldTree.{FieldTree}
 use Rattle.rx_syntax.specs.declared.tree.MessageTree.{MessageTree}
+use Rattle.rx_syntax.specs.declared.rule.Rule.TheVariants as rule
 use Rattle.rx_types.specs.Tree.{Tree, tree_if_any}
 use Rattle.rx_judge.specs.Meaning.{Meaning, ◌>>=◌, refused, each_from}
 use Rattle.rx_judge.specs.Names.{Scope, Within}
@@ -21,8 +22,9 @@ use Rattle.rx_judge.specs.Scalar.{root_place}
 use Rattle.rx_judge.specs.declared.names.KnownField.{KnownField}
 use Rattle.rx_judge.specs.declared.names.FieldKind.{FieldKind}
 use Rattle.rx_judge.specs.declared.names.FieldKind.TheVariants as field_kind
-use Rattle.rx_elab.specs.Firsts.{has_first_form, laid, is_mixed}
+use Rattle.rx_elab.specs.Firsts.{has_first_form, laid, unlaid, is_mixed, is_mixed_name}
 use Rattle.rx_elab.specs.Through.{through}
+use Rattle.rx_elab.specs.declared.firsts.Written.{Written}
 use Rattle.rx_elab.specs.declared.layings.Laying.{Laying}
 use Rattle.rx_elab.specs.declared.parts.Parts as code
 use Rattle.rx_elab.specs.declared.parts.FieldParts as code_field
@@ -35,17 +37,17 @@ root_name owner (tree.Attribute n a) = n.name.word
 root_name owner (tree.Member n f) = n.name.word
 root_name owner e = owner
 
--- a number, or 10 at the root
+-- a number, or WrongType at the root
 abbrev pub number_judged : Scope → List ℕ → ExprTree → Meaning Tree
 number_judged s owner e = do
   x ← judged (Within s) owner e
-  if is_number x.about.kind then Ok x.tree else refused 10 (root_place e) (root_name owner e)
+  if is_number x.about.kind then Ok x.tree else refused rule.WrongType (root_place e) (root_name owner e)
 
--- a truth value, or 10 at the root
+-- a truth value, or WrongType at the root
 abbrev pub truth_judged : Scope → List ℕ → ExprTree → Meaning Tree
 truth_judged s owner e = do
   x ← judged (Within s) owner e
-  if is_truth x.about.kind then Ok x.tree else refused 10 (root_place e) (root_name owner e)
+  if is_truth x.about.kind then Ok x.tree else refused rule.WrongType (root_place e) (root_name owner e)
 
 pub record Parts : Type 0 where
   pub condition : Option Tree
@@ -82,20 +84,25 @@ abbrev pub is_mixed_target : List Laying → Option KnownField → Option ℕ �
 is_mixed_target ls (Some f) (Some x) = is_mixed ls f.id x
 is_mixed_target ls target over = false
 
--- a First in neither form is 18 at its name, and one that lays its target otherwise than another link does is 17
+-- the target has a First over this name, which is no field's, at some links, and at others it has not
+abbrev pub is_mixed_beside : List Laying → Option KnownField → Option Written → Bool
+is_mixed_beside ls (Some f) (Some w) = is_mixed_name ls f.id w
+is_mixed_beside ls target w = false
+
+-- a First that lays its target otherwise than another link does is OverlayMixed at its name, whatever its name means, and one in neither form is FirstForm
 abbrev pub first_stands : Scope → List Laying → List ℕ → Option KnownField → Place → ExprTree → Meaning (Unit {0})
 first_stands s ls owner target p e =
-    if not (has_first_form s owner e) then refused 18 p (codes "First")
-    else (if is_mixed_target ls target (laid s e) then refused 17 p (codes "First") else Ok tt)
+    if is_mixed_target ls target (laid s e) || is_mixed_beside ls target (unlaid s e) then refused rule.OverlayMixed p (codes "First")
+    else (if not (has_first_form s owner e) then refused rule.FirstForm p (codes "First") else Ok tt)
 
 abbrev pub first_judged : Scope → List Laying → List ℕ → Option KnownField → Place → ExprTree → Meaning Tree
 first_judged s ls owner target p e = do
   u ← first_stands s ls owner target p e
   number_judged s owner e
 
--- a Size of a scalar is 10 at its name
+-- a Size of a scalar is WrongType at its name
 abbrev pub size_judged : Scope → List ℕ → Option KnownField → Place → ExprTree → Meaning Tree
-size_judged s owner target p e = if is_scalar_field target then refused 10 p (codes "Size") else number_judged s owner e
+size_judged s owner target p e = if is_scalar_field target then refused rule.WrongType p (codes "Size") else number_judged s owner e
 
 abbrev pub with_aspect : Scope → List Laying → List ℕ → Option KnownField → Parts → AspectTree → Meaning Parts
 with_aspect s ls owner target parts (aspect.First p e) = first_judged s ls owner target p e >>= (λ x. Ok (record parts { first = Some x }))

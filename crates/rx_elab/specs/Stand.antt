@@ -19,6 +19,7 @@ use Rattle.rx_syntax.specs.declared.tree.FieldTree.{FieldTree}
 use Rattle.rx_syntax.specs.declared.tree.ThenTree.{ThenTree}
 use Rattle.rx_syntax.specs.declared.tree.AspectTree.{AspectTree}
 use Rattle.rx_syntax.specs.declared.tree.AspectTree.TheVariants as aspect
+use Rattle.rx_syntax.specs.declared.rule.Rule.TheVariants as rule
 use Rattle.rx_judge.specs.Meaning.{Meaning, ◌>>=◌, refused, refused_at, all_stand_from}
 use Rattle.rx_elab.specs.Through.{through}
 use Rattle.rx_elab.specs.declared.stand.Seen.{Seen}
@@ -33,9 +34,9 @@ Known = List (Entry (Unit {0}))
 abbrev pub knowing : List ℕ → Known → Known
 knowing w known = added known [] w tt
 
--- a name that is known already is 9, and else it is known from here on
+-- a name that is known already is NameClash, and else it is known from here on
 abbrev pub fresh : Known → Named → Meaning Known
-fresh known name = if has known [] name.word then refused_at 9 name else Ok (knowing name.word known)
+fresh known name = if has known [] name.word then refused_at rule.NameClash name else Ok (knowing name.word known)
 
 -- ---- enumerations
 
@@ -52,9 +53,9 @@ same_enum_aspect (enum_aspect.Size p e) (enum_aspect.Size q f) = true
 same_enum_aspect (enum_aspect.AlwaysValid p b) (enum_aspect.AlwaysValid q c) = true
 same_enum_aspect a b = false
 
--- an aspect whose name an earlier one has is 9
+-- an aspect whose name an earlier one has is NameClash
 abbrev pub enum_aspect_stands : List EnumAspect → ℕ → EnumAspect → Meaning (Unit {0})
-enum_aspect_stands xs k a = if list_any (λ b. same_enum_aspect a b) (take k xs) then refused 9 (enum_aspect_place a) (enum_aspect_name a) else Ok tt
+enum_aspect_stands xs k a = if list_any (λ b. same_enum_aspect a b) (take k xs) then refused rule.NameClash (enum_aspect_place a) (enum_aspect_name a) else Ok tt
 
 abbrev pub literal_fresh : Known → LiteralTree → Meaning Known
 literal_fresh known l = fresh known l.name
@@ -98,9 +99,9 @@ abbrev pub claimed : Known → Option (List ℕ) → List AspectTree → Known
 claimed known None xs = known
 claimed known (Some field) xs = with_aspects known field xs
 
--- an aspect is 9 that stands earlier in its list, or elsewhere at what belongs to the same field
+-- an aspect is NameClash that stands earlier in its list, or elsewhere at what belongs to the same field
 abbrev pub aspect_stands : Known → Option (List ℕ) → List AspectTree → ℕ → AspectTree → Meaning (Unit {0})
-aspect_stands known field xs k a = if list_any (λ b. same_aspect a b) (take k xs) || is_claimed known field a then refused 9 (aspect_place a) (aspect_name a) else Ok tt
+aspect_stands known field xs k a = if list_any (λ b. same_aspect a b) (take k xs) || is_claimed known field a then refused rule.NameClash (aspect_place a) (aspect_name a) else Ok tt
 
 abbrev pub aspects_stand : Known → Option (List ℕ) → List AspectTree → Meaning (Unit {0})
 aspects_stand known field xs = all_stand_from (aspect_stands known field xs) 0 xs
@@ -153,12 +154,12 @@ built_in = record {
 
 -- the package of a `with` clause is one of those that were fetched
 abbrev pub with_stands : List (List ℕ) → Named → Meaning (Unit {0})
-with_stands asked w = if list_any (λ a. same a w.word) asked then Ok tt else refused_at 8 w
+with_stands asked w = if list_any (λ a. same a w.word) asked then Ok tt else refused_at rule.UnknownName w
 
 -- a name that has to be this one, without its case
 abbrev pub is_named : Named → Option (List ℕ) → Meaning (Unit {0})
-is_named name None = refused_at 8 name
-is_named name (Some w) = if same w name.word then Ok tt else refused_at 8 name
+is_named name None = refused_at rule.UnknownName name
+is_named name (Some w) = if same w name.word then Ok tt else refused_at rule.UnknownName name
 
 abbrev pub withs_stand : List (List ℕ) → List Named → Meaning (Unit {0})
 withs_stand asked ws = all_stand_from (λ k w. with_stands asked w) 0 ws

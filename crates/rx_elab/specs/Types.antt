@@ -2,7 +2,7 @@
 --   Types                       what is known of types so far
 --   type_declared p t d         the same after declaration d of package p
 --   package_types t p           the same after a package
---   type_named t p withs n      what the type name n stands for in package p; 8 where it stands for nothing
+--   type_named t p withs n      what the type name n stands for in package p; UnknownName where it stands for nothing
 use Rattle.std.specs.Prelude.{ℕ, ◌||◌, Bool, List, [], ◌∷◌, ◌++◌, length, Option, Some, None, Ok, codes, if◌then◌else◌}
 use Rattle.std.specs.List.{list_any}
 use Rattle.std.specs.Option.{option_or}
@@ -13,6 +13,7 @@ use Rattle.rx_syntax.specs.declared.tree.DeclTree.{DeclTree}
 use Rattle.rx_syntax.specs.declared.tree.DeclKind.{DeclKind}
 use Rattle.rx_syntax.specs.declared.tree.DeclKind.TheVariants as decl
 use Rattle.rx_syntax.specs.declared.tree.PackageTree.{PackageTree}
+use Rattle.rx_syntax.specs.declared.rule.Rule.TheVariants as rule
 use Rattle.rx_types.specs.declared.kind.Kind.{Kind}
 use Rattle.rx_types.specs.declared.kind.Kind.TheVariants as kind
 use Rattle.rx_types.specs.declared.scalar.Literal.{Literal}
@@ -110,7 +111,7 @@ is_visible_in p withs q = same p q || list_any (λ n. same n.word q) withs
 
 abbrev pub type_in : List (Entry KnownType) → List ℕ → List Named → Option Named → Named → Meaning KnownType
 type_in table p withs None name = known name (own_type table p name.word)
-type_in table p withs (Some q) name = if is_visible_in p withs q.word then known name (found table q.word name.word) else refused_at 8 q
+type_in table p withs (Some q) name = if is_visible_in p withs q.word then known name (found table q.word name.word) else refused_at rule.UnknownName q
 
 abbrev pub type_named : List (Entry KnownType) → List ℕ → List Named → NameTree → Meaning KnownType
 type_named table p withs n = type_in table p withs n.«package» n.name

@@ -6,7 +6,7 @@ ghost use Rattle.rx_elab.specs.Fields.{held_as, field_held};
 
 use crate::types::{KnownScalar, KnownType, type_named};
 use rx_judge::{Fault, Table, refused_at};
-use rx_syntax::{FieldTree, Named, Word};
+use rx_syntax::{FieldTree, Named, Rule, Word};
 use std::alloc::Global;
 
 /// What a field holds: the numbers of a scalar type, or bytes.
@@ -23,7 +23,7 @@ fn held_as(alloc: Global, name: &Named, known: KnownType) -> Result<Held, Fault>
     match known {
         KnownType::Scalar(scalar) => Ok(Held::Scalar(scalar)),
         KnownType::Opaque => Ok(Held::Opaque),
-        KnownType::Other => Err(Fault::Refused(refused_at(alloc, 10, name)?)),
+        KnownType::Other => Err(Fault::Refused(refused_at(alloc, Rule::WrongType, name)?)),
     }
 }
 
@@ -42,8 +42,8 @@ fn field_held(
     Ok(held)
 }
 
-/// What each field of a message holds; 8 where the name of its type stands for nothing, and 10 where it is no type of a
-/// field.
+/// What each field of a message holds; UnknownName where the name of its type stands for nothing, and WrongType where
+/// it is no type of a field.
 pub fn fields_held(
     alloc: Global,
     types: &Table<KnownType>,

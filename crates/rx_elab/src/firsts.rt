@@ -5,12 +5,19 @@ ghost use Rattle.std.specs.Option.{option_copied};
 ghost use Rattle.rx_judge.specs.Judged.{is_message, judged};
 ghost use Rattle.rx_judge.specs.Meaning.{Tells};
 ghost use Rattle.rx_judge.specs.Names.{scope_of, Within};
-ghost use Rattle.rx_elab.specs.Firsts.{field_of_thing, field_of_name, is_of_numbers, is_step_by, is_step, is_form, name_of_last, is_behind, has_first_form, field_if_any, laid};
+ghost use Rattle.rx_elab.specs.Firsts.{field_of_thing, field_of_name, is_of_numbers, is_step_by, is_step, is_form, name_of_last, is_behind, has_first_form, field_if_any, laid, package_written, name_written, written_unless, unlaid, same_package, is_written};
 
 use rx_judge::{Fault, Names, NoMemory, Scope, Thing, judge, thing_of};
-use rx_syntax::{Attr, ExprTree, NameTree, Operator, Word};
+use rx_syntax::{Attr, ExprTree, NameTree, Named, Operator, Word};
 use rx_types::FieldId;
 use std::alloc::Global;
+
+/// A name as it is written.
+#[derive(Debug, Drop)]
+pub struct Written {
+    pub package: Option<Word>,
+    pub name: Word,
+}
 
 // ---- names
 
@@ -33,7 +40,7 @@ fn field_of_thing(thing: Thing) -> Option<FieldId>
     }
 }
 
-// The field that a name stands for, if it is one; 8 where the name stands for nothing.
+// The field that a name stands for, if it is one; UnknownName where the name stands for nothing.
 fn field_of_name(
     alloc: Global,
     scope: &Scope<'_>,
@@ -182,4 +189,80 @@ pub(crate) fn laid(
         ExprTree::Attribute(name, Attr::First) => field_if_any(alloc, scope, name),
         _ => Ok(None),
     }
+}
+
+// ---- names that stand for no field
+
+// The package of a name, if it is written.
+fn package_written(alloc: Global, package: Option<&Named>) -> Result<Option<Word>, NoMemory>
+    ensures { IfOk result (λ w. w ≡ package_written (option_copied «package».entry)) }
+{
+    match package {
+        None => Ok(None),
+        Some(package) => {
+            let word = package.word.copy(alloc)?;
+            Ok(Some(word))
+        }
+    }
+}
+
+// The name as it is written.
+fn name_written(alloc: Global, name: &NameTree) -> Result<Written, NoMemory>
+    ensures { IfOk result (λ w. w ≡ name_written name.now) }
+{
+    let package = package_written(alloc, name.package.as_ref())?;
+    let name = name.name.word.copy(alloc)?;
+    Ok(Written { package, name })
+}
+
+// The name as it is written, unless it is a field's.
+fn written_unless(
+    alloc: Global,
+    name: &NameTree,
+    field: Option<FieldId>,
+) -> Result<Option<Written>, NoMemory>
+    ensures { IfOk result (λ w. w ≡ written_unless name.now field) }
+{
+    match field {
+        None => {
+            let name = name_written(alloc, name)?;
+            Ok(Some(name))
+        }
+        Some(_) => Ok(None),
+    }
+}
+
+/// Y of a First `Y'First` where Y is no field, as it is written.
+pub(crate) fn unlaid(
+    alloc: Global,
+    scope: &Scope<'_>,
+    tree: &ExprTree,
+) -> Result<Option<Written>, NoMemory>
+    ensures { IfOk result (λ w. w ≡ unlaid (scope_of scope.now) tree.now) }
+{
+    match tree {
+        ExprTree::Attribute(name, Attr::First) => {
+            let field = field_if_any(alloc, scope, name)?;
+            written_unless(alloc, name, field)
+        }
+        _ => Ok(None),
+    }
+}
+
+// Whether both are the same package, or none.
+fn same_package(left: Option<&Word>, right: Option<&Word>) -> bool
+    ensures { result ≡ same_package (option_copied left.entry) (option_copied right.entry) }
+{
+    match (left, right) {
+        (None, None) => true,
+        (Some(left), Some(right)) => left.same(right),
+        _ => false,
+    }
+}
+
+/// Whether both are the same name, but for ASCII case.
+pub(crate) fn is_written(left: &Written, right: &Written) -> bool
+    ensures { result ≡ is_written left.now right.now }
+{
+    same_package(left.package.as_ref(), right.package.as_ref()) && left.name.same(&right.name)
 }

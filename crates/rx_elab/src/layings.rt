@@ -3,20 +3,22 @@
 ghost use Rattle.std.specs.Prelude.{◌≡◌, find, IfOk};
 ghost use Rattle.std.specs.Option.{option_copied};
 ghost use Rattle.rx_judge.specs.Names.{scope_of};
-ghost use Rattle.rx_elab.specs.Firsts.{laid_if_any, first_in, clause_first, field_first, target_first, way_first, laying_of, layings_of, is_at, is_over, lays_otherwise, is_mixed, unless_mixed, overlay_in};
+ghost use Rattle.rx_elab.specs.Firsts.{laid_if_any, unlaid_if_any, first_in, clause_first, field_first, target_first, way_first, laying_of, layings_of, is_at, is_over, lays_otherwise, is_mixed, is_written_so, writes_otherwise, is_mixed_name, unless_mixed, overlay_in};
 
-use crate::firsts::laid;
+use crate::firsts::{Written, is_written, laid, unlaid};
 use rx_judge::{NoMemory, Scope};
 use rx_links::{Stop, Way, clause_of, clauses_of};
 use rx_syntax::{AspectTree, ExprTree, FieldTree, MessageTree, ThenTree};
 use rx_types::FieldId;
 use std::alloc::Global;
 
-/// Where a link leads, and the field over which it lays its target, if it does.
-#[derive(Clone, Copy, Debug, PartialEq, Eq)]
+/// Where a link leads, and the field over which it lays its target, if it does; beside that the name of a First
+/// `Y'First` that stands for no field.
+#[derive(Debug, Drop)]
 pub struct Laying {
     pub target: Stop,
     pub over: Option<FieldId>,
+    pub beside: Option<Written>,
 }
 
 // ---- Firsts
@@ -87,6 +89,21 @@ fn laid_if_any(
     }
 }
 
+// Y of the First, if there is one, where Y is no field.
+fn unlaid_if_any(
+    alloc: Global,
+    scope: &Scope<'_>,
+    first: Option<&ExprTree>,
+) -> Result<Option<Written>, NoMemory>
+    ensures { IfOk result (λ x. x ≡ unlaid_if_any (scope_of scope.now) (option_copied first.entry)) }
+{
+    match first {
+        None => Ok(None),
+        Some(tree) => unlaid(alloc, scope, tree),
+    }
+}
+
+// Where a link leads, and over what it lays its target.
 fn laying_of(
     alloc: Global,
     scope: &Scope<'_>,
@@ -96,9 +113,11 @@ fn laying_of(
     ensures { IfOk result (λ l. l ≡ laying_of (scope_of scope.now) message.now way) }
 {
     let over = laid_if_any(alloc, scope, way_first(message, way))?;
+    let beside = unlaid_if_any(alloc, scope, way_first(message, way))?;
     Ok(Laying {
         target: way.target,
         over,
+        beside,
     })
 }
 
@@ -152,6 +171,32 @@ pub(crate) fn is_mixed(layings: &[Laying], index: usize, field: FieldId) -> bool
     layings
         .iter()
         .any(|laying| lays_otherwise(index, field, laying))
+}
+
+// Whether there is a name, and it is this one.
+fn is_written_so(name: &Written, beside: Option<&Written>) -> bool
+    ensures { result ≡ is_written_so name.now (option_copied beside.entry) }
+{
+    match beside {
+        None => false,
+        Some(other) => is_written(name, other),
+    }
+}
+
+// Whether the link leads to the field, and has no First over this name.
+fn writes_otherwise(index: usize, name: &Written, laying: &Laying) -> bool
+    ensures { result ≡ writes_otherwise index name.now laying.now }
+{
+    is_at(index, laying.target) && !is_written_so(name, laying.beside.as_ref())
+}
+
+/// Whether some link to a field has no First over this name.
+pub(crate) fn is_mixed_name(layings: &[Laying], index: usize, name: &Written) -> bool
+    ensures { result ≡ is_mixed_name layings.now index name.now }
+{
+    layings
+        .iter()
+        .any(|laying| writes_otherwise(index, name, laying))
 }
 
 fn unless_mixed(layings: &[Laying], index: usize, over: Option<FieldId>) -> Option<FieldId>

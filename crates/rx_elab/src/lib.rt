@@ -11,6 +11,7 @@ mod types;
 
 pub use fault::refused_with;
 pub use fields::{Held, fields_held};
+pub use firsts::Written;
 pub use layings::{Laying, layings_of, overlay_in};
 pub use parts::{FieldParts, MessageParts, Parts, message_parts};
 pub use stand::{Declared, Seen, package_stands};

@@ -6,16 +6,16 @@ ghost use Rattle.rx_types.specs.Tree.{tree_of};
 ghost use Rattle.rx_judge.specs.Meaning.{Tells, each_from};
 ghost use Rattle.rx_judge.specs.Names.{scope_of};
 ghost use Rattle.rx_elab.specs.Through.{through};
-ghost use Rattle.rx_elab.specs.Parts.{root_name, number_judged, truth_judged, is_scalar_field, target_in, is_mixed_target, first_stands, first_judged, size_judged, with_aspect, with_condition, no_parts, parts_judged, then_parts, field_parts, message_parts, parts_of, field_parts_of, message_parts_of};
+ghost use Rattle.rx_elab.specs.Parts.{root_name, number_judged, truth_judged, is_scalar_field, target_in, is_mixed_target, is_mixed_beside, first_stands, first_judged, size_judged, with_aspect, with_condition, no_parts, parts_judged, then_parts, field_parts, message_parts, parts_of, field_parts_of, message_parts_of};
 
 use crate::fault::refused_with;
-use crate::firsts::{has_first_form, laid};
-use crate::layings::{Laying, is_mixed};
+use crate::firsts::{Written, has_first_form, laid, unlaid};
+use crate::layings::{Laying, is_mixed, is_mixed_name};
 use rx_judge::{
     Fault, FieldKind, KnownField, Names, NoMemory, Scope, is_number, is_truth, judge, refused,
     root_place,
 };
-use rx_syntax::{AspectTree, ExprTree, FieldTree, MessageTree, Place, ThenTree, Word};
+use rx_syntax::{AspectTree, ExprTree, FieldTree, MessageTree, Place, Rule, ThenTree, Word};
 use rx_types::{Expr, FieldId};
 use std::alloc::Global;
 
@@ -65,7 +65,7 @@ fn number_judged(
     let judged = judge(alloc, &Names::Within(*scope), owner, tree)?;
     if !is_number(judged.about.kind) {
         let name = root_name(owner, tree);
-        return Err(Fault::Refused(refused(alloc, 10, root_place(tree), name)?));
+        return Err(Fault::Refused(refused(alloc, Rule::WrongType, root_place(tree), name)?));
     }
     Ok(judged.expr)
 }
@@ -82,7 +82,7 @@ fn truth_judged(
     let judged = judge(alloc, &Names::Within(*scope), owner, tree)?;
     if !is_truth(judged.about.kind) {
         let name = root_name(owner, tree);
-        return Err(Fault::Refused(refused(alloc, 10, root_place(tree), name)?));
+        return Err(Fault::Refused(refused(alloc, Rule::WrongType, root_place(tree), name)?));
     }
     Ok(judged.expr)
 }
@@ -122,6 +122,18 @@ fn is_mixed_target(layings: &[Laying], target: Option<KnownField>, over: Option<
     }
 }
 
+// Whether the target has a First over this name at some links, and not at others.
+fn is_mixed_beside(layings: &[Laying], target: Option<KnownField>, beside: Option<&Written>) -> bool
+    ensures { result ≡ is_mixed_beside layings.now target (option_copied beside.entry) }
+{
+    match (target, beside) {
+        (Some(field), Some(name)) => is_mixed_name(layings, usize::from(field.id), name),
+        (Some(_), None) => false,
+        (None, _) => false,
+    }
+}
+
+// A First lays its target as the other links do, and has one of its forms.
 fn first_stands(
     alloc: Global,
     scope: &Scope<'_>,
@@ -134,11 +146,13 @@ fn first_stands(
     ensures meaning { IfOk result (λ x. first_stands (scope_of scope.now) layings.now owner.now target place tree.now ≡ Ok x) }
     ensures refusal { IfErr result (λ e. Tells e (first_stands (scope_of scope.now) layings.now owner.now target place tree.now)) }
 {
-    if !has_first_form(alloc, scope, owner, tree)? {
-        return Err(Fault::Refused(refused_with(alloc, 18, place, "First")?));
+    let over = laid(alloc, scope, tree)?;
+    let beside = unlaid(alloc, scope, tree)?;
+    if is_mixed_target(layings, target, over) || is_mixed_beside(layings, target, beside.as_ref()) {
+        return Err(Fault::Refused(refused_with(alloc, Rule::OverlayMixed, place, "First")?));
     }
-    if is_mixed_target(layings, target, laid(alloc, scope, tree)?) {
-        return Err(Fault::Refused(refused_with(alloc, 17, place, "First")?));
+    if !has_first_form(alloc, scope, owner, tree)? {
+        return Err(Fault::Refused(refused_with(alloc, Rule::FirstForm, place, "First")?));
     }
     Ok(())
 }
@@ -171,7 +185,7 @@ fn size_judged(
     ensures refusal { IfErr result (λ e. Tells e (size_judged (scope_of scope.now) owner.now target place tree.now)) }
 {
     if is_scalar_field(target) {
-        return Err(Fault::Refused(refused_with(alloc, 10, place, "Size")?));
+        return Err(Fault::Refused(refused_with(alloc, Rule::WrongType, place, "Size")?));
     }
     number_judged(alloc, scope, owner, tree)
 }
@@ -345,9 +359,10 @@ fn fields_parts(
     Ok(all)
 }
 
-/// The conditions and aspects of a message in order of text, where `owner` is the message's name and its links lay their
-/// targets so: 8, 10, 12 and 13 by their expressions, 10 at a Size of a scalar field, 18 at a First that has neither
-/// form, and 17 at one that lays its target over a field, where another link lays it otherwise.
+/// The conditions and aspects of a message in order of text, where `owner` is the message's name and its links lay
+/// their targets so: UnknownName, WrongType, NotLinear and TooWide by their expressions, WrongType at a Size of a
+/// scalar field, FirstForm at a First that has neither form, and OverlayMixed at one that lays its target over a
+/// field, where another link lays it otherwise.
 pub fn message_parts(
     alloc: Global,
     scope: &Scope<'_>,

@@ -13,7 +13,7 @@ use crate::fault::refused_with;
 use rx_judge::{Fault, NoMemory, Table, refused_at};
 use rx_syntax::{
     AspectTree, DeclKind, DeclTree, DefTree, EnumAspect, FieldTree, HeaderTree, LiteralTree,
-    MessageTree, Named, PackageTree, Place, ThenTree, Word,
+    MessageTree, Named, PackageTree, Place, Rule, ThenTree, Word,
 };
 use rx_types::Name;
 use std::alloc::Global;
@@ -33,13 +33,13 @@ pub struct Declared {
     pub literals: Table<()>,
 }
 
-// Adds a name; 9 where it is known.
+// Adds a name; NameClash where it is known.
 fn add_fresh(alloc: Global, known: &mut Table<()>, name: &Named) -> Result<(), Fault>
     ensures meaning { IfOk result (λ x. fresh known.old name.now ≡ Ok known.new) }
     ensures refusal { IfErr result (λ e. Tells e (fresh known.old name.now)) }
 {
     if !known.add(alloc, b"", name.word.as_str().as_bytes(), ())? {
-        return Err(Fault::Refused(refused_at(alloc, 9, name)?));
+        return Err(Fault::Refused(refused_at(alloc, Rule::NameClash, name)?));
     }
     Ok(())
 }
@@ -102,7 +102,7 @@ fn enum_aspect_stands(
     if is_repeated_enum(&aspects[..index], aspect) {
         let place = enum_aspect_place(aspect);
         let name = enum_aspect_name(aspect);
-        return Err(Fault::Refused(refused_with(alloc, 9, place, name)?));
+        return Err(Fault::Refused(refused_with(alloc, Rule::NameClash, place, name)?));
     }
     Ok(())
 }
@@ -219,7 +219,7 @@ fn aspect_stands(
     if repeated || elsewhere {
         let place = aspect_place(aspect);
         let name = aspect_name(aspect);
-        return Err(Fault::Refused(refused_with(alloc, 9, place, name)?));
+        return Err(Fault::Refused(refused_with(alloc, Rule::NameClash, place, name)?));
     }
     Ok(())
 }
@@ -412,7 +412,7 @@ fn with_stands(alloc: Global, asked: &[Name], with: &Named) -> Result<(), Fault>
     ensures refusal { IfErr result (λ e. Tells e (with_stands asked.now «with».now)) }
 {
     if !is_asked(asked, &with.word) {
-        return Err(Fault::Refused(refused_at(alloc, 8, with)?));
+        return Err(Fault::Refused(refused_at(alloc, Rule::UnknownName, with)?));
     }
     Ok(())
 }
@@ -432,10 +432,10 @@ fn is_fetched(alloc: Global, asked: &[Name], index: usize, name: &Named) -> Resu
     ensures refusal { IfErr result (λ e. Tells e (is_named name.now (slice_get asked.now index))) }
 {
     match asked.get(index) {
-        None => Err(Fault::Refused(refused_at(alloc, 8, name)?)),
+        None => Err(Fault::Refused(refused_at(alloc, Rule::UnknownName, name)?)),
         Some(fetched) => {
             if !is_same(fetched, &name.word) {
-                return Err(Fault::Refused(refused_at(alloc, 8, name)?));
+                return Err(Fault::Refused(refused_at(alloc, Rule::UnknownName, name)?));
             }
             Ok(())
         }
@@ -447,7 +447,7 @@ fn is_ended(alloc: Global, end: &Named, word: &Word) -> Result<(), Fault>
     ensures refusal { IfErr result (λ e. Tells e (is_named end.now (Some word.now))) }
 {
     if !word.same(&end.word) {
-        return Err(Fault::Refused(refused_at(alloc, 8, end)?));
+        return Err(Fault::Refused(refused_at(alloc, Rule::UnknownName, end)?));
     }
     Ok(())
 }
@@ -484,8 +484,9 @@ fn body_stands(alloc: Global, package: &PackageTree) -> Result<(), Fault>
     Ok(())
 }
 
-/// The first pass over a package: 8 at a `with` clause whose package was not fetched, at a name of the package that is
-/// not the one under which it was fetched, and at an end name that is not its own; 9 at a second declaration or aspect.
+/// The first pass over a package: UnknownName at a `with` clause whose package was not fetched, at a name of the
+/// package that is not the one under which it was fetched, and at an end name that is not its own; NameClash at a
+/// second declaration or aspect.
 pub fn package_stands(
     alloc: Global,
     asked: &[Name],

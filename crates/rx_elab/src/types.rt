@@ -12,7 +12,7 @@ ghost use Rattle.rx_elab.specs.Types.{kind_declared, known_scalar, with_literals
 
 use rx_graph::Scalar;
 use rx_judge::{Fault, KnownLiteral, NoMemory, Table, definition, refused_at, spelled};
-use rx_syntax::{DeclKind, DeclTree, DefTree, NameTree, Named, PackageTree, Word};
+use rx_syntax::{DeclKind, DeclTree, DefTree, NameTree, Named, PackageTree, Rule, Word};
 use rx_types::{Kind, Literal, Name, ScalarType, TypeId};
 use std::alloc::Global;
 
@@ -221,7 +221,7 @@ fn types_declared(
     Ok(())
 }
 
-/// The second pass over a package: its scalar types (10 to 14, 20), with the names of its types and literals.
+/// The second pass over a package: its scalar types, with the names of its types and literals.
 pub fn package_types(alloc: Global, types: &mut Types, package: &PackageTree) -> Result<(), Fault>
     requires few { length types.old.scalars.items + length «package».now.decls.items ≤ 2 ^ 32 }
     ensures meaning { IfOk result (λ x. package_types (types_of types.old) «package».now ≡ Ok (types_of types.new)) }
@@ -325,7 +325,7 @@ fn is_visible_in(package: &Word, withs: &[Named], prefix: &Word) -> bool
     package.same(prefix) || is_among(withs, prefix)
 }
 
-/// What the name of a type stands for in a package; 8 where it stands for nothing.
+/// What the name of a type stands for in a package; UnknownName where it stands for nothing.
 pub fn type_named(
     alloc: Global,
     table: &Table<KnownType>,
@@ -339,16 +339,16 @@ pub fn type_named(
     match &name.package {
         None => match own_type(alloc, table, package, &name.name.word)? {
             Some(known) => Ok(known),
-            None => Err(Fault::Refused(refused_at(alloc, 8, &name.name)?)),
+            None => Err(Fault::Refused(refused_at(alloc, Rule::UnknownName, &name.name)?)),
         },
         Some(prefix) => {
             if !is_visible_in(package, withs, &prefix.word) {
-                return Err(Fault::Refused(refused_at(alloc, 8, prefix)?));
+                return Err(Fault::Refused(refused_at(alloc, Rule::UnknownName, prefix)?));
             }
             let prefix = prefix.word.as_str().as_bytes();
             match table.find(alloc, prefix, name.name.word.as_str().as_bytes())? {
                 Some(known) => Ok(known),
-                None => Err(Fault::Refused(refused_at(alloc, 8, &name.name)?)),
+                None => Err(Fault::Refused(refused_at(alloc, Rule::UnknownName, &name.name)?)),
             }
         }
     }

@@ -2,9 +2,9 @@
 
 ghost use Rattle.std.specs.Prelude.{◌≡◌, ◌≤◌, ℕ, List, length, Ok, Err, IfOk, IfSome};
 ghost use Rattle.rx_types.specs.Domain.{Domain};
-ghost use Rattle.rx_graph.specs.Elaborated.{IsElaborated};
 ghost use Rattle.rx_graph.specs.Fits.{Assigned, length_of};
-ghost use Rattle.rx_graph.specs.Graph.{Graph, domains_of, graph_of};
+ghost use Rattle.rx_graph.specs.Graph.{Graph};
+ghost use Rattle.rx_context.specs.Plan.{StandsFor};
 ghost use Rattle.rx_draft.specs.Drafts.{StandsForSound, IsSoundPlan};
 ghost use Rattle.rx_values.specs.Answers.{refusal_of};
 ghost use Rattle.rx_values.specs.Reading.{value_of};
@@ -16,10 +16,10 @@ ghost use Rattle.rx_encode.specs.Walks.{IsOfWalk};
 
 use crate::fault::NoMemory;
 use rx_context::Plan;
-use rx_graph::{Message, Spec};
+use rx_graph::Sound;
 use rx_serial::{UnfitReason, WriteFault, is_within, room, write};
 use rx_types::FieldId;
-use rx_values::{Valuation, ValueFault, from_json};
+use rx_values::{Valuation, ValueFault, valuation_of};
 use std::alloc::Global;
 
 /// The longest message that is encoded, in bytes.
@@ -128,19 +128,18 @@ fn valued(alloc: Global, plan: &Plan, valuation: &Valuation) -> Result<Encoded, 
     }
 }
 
-/// What a JSON text is of a message, by the plan of the message, whose checks hold.
+/// What a JSON text is of a message whose checks hold, by its plan.
 pub fn encode(
     alloc: Global,
-    message: &Message,
-    spec: &Spec,
+    message: &Sound<'_>,
     plan: &Plan,
     text: &[u8],
 ) -> Result<Encoded, NoMemory>
-    requires elaborated { IsElaborated (domains_of spec.now) (graph_of message.now) }
-    requires stands { StandsForSound (domains_of spec.now) (graph_of message.now) plan.now }
-    ensures { IfOk result (IsEncoded (domains_of spec.now) (graph_of message.now) text.now) }
+    requires stands { StandsFor message.now.domains message.now.graph plan.now }
+    ensures { IfOk result (IsEncoded message.now.domains message.now.graph text.now) }
 {
-    match from_json(alloc, message, spec, text) {
+    message.is_sound();
+    match valuation_of(alloc, message.elaborated(), text) {
         Ok(valuation) => valued(alloc, plan, &valuation),
         Err(fault) => refused(fault),
     }

@@ -4,12 +4,12 @@ ghost use Rattle.std.specs.Prelude.{map};
 ghost use Rattle.std.specs.List.{AllByRecursion};
 ghost use Rattle.rx_types.specs.Domain.{domain_of};
 ghost use Rattle.rx_types.specs.Names.{IsName};
-ghost use Rattle.rx_graph.specs.Graph.{domains_of, graph_of};
 ghost use Rattle.rx_values.specs.Laws.{AreNamed, HasNames};
 
-use rx_graph::{Field, Message, Scalar, Spec};
+use rx_graph::{Elaborated, Field, Scalar};
 use rx_types::{Literal, ScalarType};
 
+// The names of fields are names.
 fn fields_are_named(fields: &[Field])
     ensures { AllByRecursion (λ f. IsName f.name) fields.now }
 {
@@ -18,6 +18,7 @@ fn fields_are_named(fields: &[Field])
     }
 }
 
+// The names of literals are names.
 fn literals_are_named(literals: &[Literal])
     ensures { AllByRecursion (λ l. IsName l.name) literals.now }
 {
@@ -26,6 +27,7 @@ fn literals_are_named(literals: &[Literal])
     }
 }
 
+// The names of a scalar type's literals are names.
 fn type_is_named(scalar: &ScalarType)
     ensures { HasNames (domain_of scalar.now) }
 {
@@ -35,6 +37,7 @@ fn type_is_named(scalar: &ScalarType)
     }
 }
 
+// The names of all scalar types' literals are names.
 fn types_are_named(scalars: &[Scalar])
     ensures { AllByRecursion HasNames (map (λ x. domain_of x.kind) scalars.now) }
 {
@@ -44,9 +47,9 @@ fn types_are_named(scalars: &[Scalar])
 }
 
 /// The names of fields and literals are names.
-pub fn all_are_named(spec: &Spec, message: &Message)
-    ensures { AreNamed (domains_of spec.now) (graph_of message.now) }
+pub fn all_are_named(message: &Elaborated<'_>)
+    ensures { AreNamed message.now.domains message.now.graph }
 {
-    fields_are_named(message.fields.as_slice());
-    types_are_named(spec.scalars.as_slice());
+    fields_are_named(message.fields());
+    types_are_named(message.scalars());
 }

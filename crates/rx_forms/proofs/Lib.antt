@@ -14,6 +14,7 @@ pub mod Intervals
 pub mod Kept
 pub mod Looping
 pub mod Lows
+pub mod Memory
 pub mod Matching
 pub mod Numbered
 pub mod Numbers

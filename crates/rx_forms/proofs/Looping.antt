@@ -1,12 +1,11 @@
 -- Links gathered one index after the other, and what is told of a whole path in the end.
-use Rattle.std.proofs.Common.{◌≡◌, refl, sym, ap, ◌∙◌, ℕ, zero, suc, ◌+◌, ◌<◌, ◌≤◌, arith, List, [], ◌∷◌, ◌++◌, length, get_or, drop, Bool, true, false, not, ◌&&◌, ◌||◌, if◌then◌else◌, nat_le, Option, Some, None, slice_get}
+use Rattle.std.proofs.Common.{◌≡◌, refl, sym, ap, ◌∙◌, ℕ, ◌+◌, ◌<◌, ◌≤◌, arith, List, [], ◌∷◌, ◌++◌, length, get_or, drop, Bool, true, false, not, ◌&&◌, ◌||◌, if◌then◌else◌, nat_le, Option, Some, None, slice_get}
 use Rattle.std.specs.List.{filter}
 use Rattle.std.proofs.lemmas.List.{drop_more}
 use Rattle.rx_types.specs.Domain.{Domain}
-use Rattle.rx_graph.specs.declared.message.Link.{Link}
 use Rattle.rx_graph.specs.declared.message.Node.{Node}
 use Rattle.rx_graph.specs.declared.message.Node.TheVariants.{Start, At, Null}
-use Rattle.rx_graph.specs.Graph.{Arrow, Graph, type_of, arrow_of, arrows}
+use Rattle.rx_graph.specs.Graph.{Arrow, Graph, type_of}
 use Rattle.rx_forms.specs.Normal.{divisions_in}
 use Rattle.rx_forms.specs.Limits.{is_within, all_kept}
 use Rattle.rx_forms.specs.Steps.{leads_to_field, link_then, links_on, scalars_on, scalars_in, target_field, next_division}
@@ -16,20 +15,6 @@ use Rattle.rx_forms.proofs.Kept.{off_left}
 use Rattle.rx_forms.proofs.Tests.{both}
 
 -- ---- lists of links
-
-pub link_at : (ls : List Link) (i : ℕ) (l : Link) → slice_get ls i ≡ Some l → slice_get (arrows ls) i ≡ Some (arrow_of l)
-link_at [] i l e = absurd (cc)
-link_at (k ∷ ls) zero l e = ap (λ (x : Option Link). arrow_if x) e
-  where
-    arrow_if : Option Link → Option Arrow
-    arrow_if None = None
-    arrow_if (Some x) = Some (arrow_of x)
-link_at (k ∷ ls) (suc i) l e = link_at ls i l e
-
-pub no_link_at : (ls : List Link) (i : ℕ) → slice_get ls i ≡ None → slice_get (arrows ls) i ≡ None
-no_link_at [] i e = refl
-no_link_at (k ∷ ls) zero e = absurd (cc)
-no_link_at (k ∷ ls) (suc i) e = no_link_at ls i e
 
 select_append : (test : Arrow → Bool) (xs ys : List Arrow) → filter test (xs ++ ys) ≡ filter test xs ++ filter test ys
 select_append test [] ys = refl

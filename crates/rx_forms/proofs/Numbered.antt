@@ -1,6 +1,6 @@
 -- A length and numbers of the types place the fields of a path.
 use Rattle.std.proofs.Common.{◌≡◌, refl, sym, ap, subst, ◌∙◌, ℕ, List, [], ◌∷◌, ◌++◌, map, ℤ, pos, Option, Some, None}
-use Rattle.rx_types.specs.Domain.{Domain, IsNumberOf}
+use Rattle.rx_types.specs.Domain.{Domain}
 use Rattle.rx_types.specs.Environment.{Placed, in_message}
 use Rattle.rx_graph.specs.Graph.{Arrow, Graph, type_of}
 use Rattle.rx_graph.specs.Paths.{HasNumber, placed_by}

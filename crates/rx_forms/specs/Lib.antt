@@ -1,4 +1,5 @@
 pub mod Carried
+pub mod Checkable
 pub mod Choices
 pub mod Code
 pub mod Divisions

@@ -1,6 +1,6 @@
-// Sums of linear forms, place by place, in numbers of 128 bits.
+//! Sums of linear forms, place by place, in numbers of 128 bits.
 
-ghost use Rattle.std.specs.Prelude.{◌≡◌, ℕ, [], ◌∷◌, ◌++◌, get_or, map, replicate, pos, ◌+ℤ◌, ◌*ℤ◌, IfOk, IfErr, IfSome, OnOk, None, true, false};
+ghost use Rattle.std.specs.Prelude.{◌≡◌, [], ◌∷◌, ◌++◌, get_or, pos, ◌+ℤ◌, ◌*ℤ◌, IfOk, IfErr, IfSome, OnOk, None, true, false};
 ghost use Rattle.std.specs.List.{list_all};
 ghost use Rattle.rx_model.specs.Sums.{weighted_sum};
 ghost use Rattle.rx_forms.specs.Linear.{constant, term, weighted, plus, minus, times, less_one};

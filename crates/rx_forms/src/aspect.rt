@@ -1,26 +1,24 @@
-// The First and the Size of a link into a field.
+//! The First and the Size of a link into a field.
 
 ghost use Rattle.std.specs.Prelude.{◌≡◌, ◌≤◌, pos, true, false, IfOk, IfErr, OnOk, None, Some};
-ghost use Rattle.rx_types.specs.Domain.{Domain, size_of};
 ghost use Rattle.rx_types.specs.Tree.{tree_of, tree_if_any};
-ghost use Rattle.rx_graph.specs.Graph.{graph_of, type_of};
+ghost use Rattle.rx_graph.specs.Graph.{type_of};
 ghost use Rattle.rx_forms.specs.Linear.{constant, plus, minus};
 ghost use Rattle.rx_forms.specs.Normal.{bits, linear, IsNumeric};
 ghost use Rattle.rx_types.specs.Narrow.{IsNarrow};
 ghost use Rattle.rx_forms.specs.Steps.{end_form, form_or, size_aspect, IsNumericIfAny, IsNarrowIfAny};
-ghost use Rattle.rx_forms.specs.Limits.{is_low, is_within};
-ghost use Rattle.rx_forms.specs.Worked.{HasSum, HasAspect, aspect_within, size_otherwise};
-ghost use Rattle.rx_forms.specs.Code.{formed_all, domains_in, limits_in};
+ghost use Rattle.rx_forms.specs.Limits.{is_low};
+ghost use Rattle.rx_forms.specs.Worked.{HasAspect, aspect_within, size_otherwise};
+ghost use Rattle.rx_forms.specs.Code.{formed_all, limits};
 
 use crate::arithmetic::{constant, copy, minus, plus};
 use crate::fault::FormFault;
 use crate::field::FieldForms;
-use crate::interval::scalar_type;
 use crate::limit::keep_low;
 use crate::linear::Linear;
 use crate::number::{bits, number_form};
 use crate::work::Work;
-use rx_graph::{Message, Scalar};
+use rx_graph::Elaborated;
 use rx_types::{Expr, FieldId};
 use std::alloc::{AllocError, Global};
 
@@ -92,18 +90,17 @@ fn fixed(alloc: Global, size: u8) -> Result<Linear, FormFault>
 fn said(
     alloc: Global,
     expr: &Expr,
-    message: &Message,
-    scalars: &[Scalar],
+    message: &Elaborated<'_>,
     fields: &[FieldForms],
     work: &mut Work,
 ) -> Result<Linear, FormFault>
     requires numeric { IsNumeric (tree_of expr.now) }
-    requires narrow { IsNarrow (limits_in scalars.now message.now) (tree_of expr.now) }
+    requires narrow { IsNarrow (limits message.now) (tree_of expr.now) }
     requires room { work.old.next ≤ 190 }
-    ensures aspect { IfOk result (λ f. (otherwise : Linear) → HasAspect (limits_in scalars.now message.now) (formed_all fields.now) (Some (tree_of expr.now)) otherwise work.old work.new f) }
+    ensures aspect { IfOk result (λ f. (otherwise : Linear) → HasAspect (limits message.now) (formed_all fields.now) (Some (tree_of expr.now)) otherwise work.old work.new f) }
     ensures limit { IfErr result (λ e. e ≡ FormFault.PathLimit → aspect_within (formed_all fields.now) work.old.next (Some (tree_of expr.now)) (linear (formed_all fields.now) work.old.next (tree_of expr.now)) ≡ false) }
 {
-    let form = number_form(alloc, expr, message, scalars, fields, work)?;
+    let form = number_form(alloc, expr, message, fields, work)?;
     keep_low(&form)?;
     Ok(form)
 }
@@ -113,19 +110,18 @@ fn said(
 pub fn first_form(
     alloc: Global,
     first: &Option<Expr>,
-    message: &Message,
-    scalars: &[Scalar],
+    message: &Elaborated<'_>,
     fields: &[FieldForms],
     work: &mut Work,
 ) -> Result<Linear, FormFault>
     requires numeric { IsNumericIfAny (tree_if_any first.now) }
-    requires narrow { IsNarrowIfAny (limits_in scalars.now message.now) (tree_if_any first.now) }
+    requires narrow { IsNarrowIfAny (limits message.now) (tree_if_any first.now) }
     requires room { work.old.next ≤ 190 }
-    ensures aspect { IfOk result (λ f. HasAspect (limits_in scalars.now message.now) (formed_all fields.now) (tree_if_any first.now) (end_form (formed_all fields.now)) work.old work.new f) }
+    ensures aspect { IfOk result (λ f. HasAspect (limits message.now) (formed_all fields.now) (tree_if_any first.now) (end_form (formed_all fields.now)) work.old work.new f) }
     ensures limit { IfErr result (λ e. e ≡ FormFault.PathLimit → aspect_within (formed_all fields.now) work.old.next (tree_if_any first.now) (form_or (tree_if_any first.now) (formed_all fields.now) work.old.next (end_form (formed_all fields.now))) ≡ false) }
 {
     match first {
-        Some(first) => said(alloc, first, message, scalars, fields, work),
+        Some(first) => said(alloc, first, message, fields, work),
         None => low_end(alloc, fields),
     }
 }
@@ -136,19 +132,18 @@ fn open_size(
     alloc: Global,
     size: &Option<Expr>,
     first: &Linear,
-    message: &Message,
-    scalars: &[Scalar],
+    message: &Elaborated<'_>,
     fields: &[FieldForms],
     work: &mut Work,
 ) -> Result<Linear, FormFault>
     requires numeric { IsNumericIfAny (tree_if_any size.now) }
-    requires narrow { IsNarrowIfAny (limits_in scalars.now message.now) (tree_if_any size.now) }
+    requires narrow { IsNarrowIfAny (limits message.now) (tree_if_any size.now) }
     requires room { work.old.next ≤ 190 }
-    ensures aspect { IfOk result (λ f. HasAspect (limits_in scalars.now message.now) (formed_all fields.now) (tree_if_any size.now) (minus bits first.now) work.old work.new f) }
+    ensures aspect { IfOk result (λ f. HasAspect (limits message.now) (formed_all fields.now) (tree_if_any size.now) (minus bits first.now) work.old work.new f) }
     ensures limit { IfErr result (λ e. e ≡ FormFault.PathLimit → aspect_within (formed_all fields.now) work.old.next (tree_if_any size.now) (form_or (tree_if_any size.now) (formed_all fields.now) work.old.next (minus bits first.now)) ≡ false) }
 {
     match size {
-        Some(size) => said(alloc, size, message, scalars, fields, work),
+        Some(size) => said(alloc, size, message, fields, work),
         None => low_rest(alloc, first),
     }
 }
@@ -160,19 +155,18 @@ pub fn size_form(
     field: FieldId,
     size: &Option<Expr>,
     first: &Linear,
-    message: &Message,
-    scalars: &[Scalar],
+    message: &Elaborated<'_>,
     fields: &[FieldForms],
     work: &mut Work,
 ) -> Result<Linear, FormFault>
     requires numeric { IsNumericIfAny (tree_if_any size.now) }
-    requires narrow { IsNarrowIfAny (limits_in scalars.now message.now) (tree_if_any size.now) }
+    requires narrow { IsNarrowIfAny (limits message.now) (tree_if_any size.now) }
     requires room { work.old.next ≤ 190 }
-    ensures aspect { IfOk result (λ f. HasAspect (limits_in scalars.now message.now) (formed_all fields.now) (size_aspect (type_of (domains_in scalars.now) (graph_of message.now) field) (tree_if_any size.now)) (size_otherwise (type_of (domains_in scalars.now) (graph_of message.now) field) first.now) work.old work.new f) }
-    ensures limit { IfErr result (λ e. e ≡ FormFault.PathLimit → aspect_within (formed_all fields.now) work.old.next (size_aspect (type_of (domains_in scalars.now) (graph_of message.now) field) (tree_if_any size.now)) (form_or (size_aspect (type_of (domains_in scalars.now) (graph_of message.now) field) (tree_if_any size.now)) (formed_all fields.now) work.old.next (size_otherwise (type_of (domains_in scalars.now) (graph_of message.now) field) first.now)) ≡ false) }
+    ensures aspect { IfOk result (λ f. HasAspect (limits message.now) (formed_all fields.now) (size_aspect (type_of message.now.domains message.now.graph field) (tree_if_any size.now)) (size_otherwise (type_of message.now.domains message.now.graph field) first.now) work.old work.new f) }
+    ensures limit { IfErr result (λ e. e ≡ FormFault.PathLimit → aspect_within (formed_all fields.now) work.old.next (size_aspect (type_of message.now.domains message.now.graph field) (tree_if_any size.now)) (form_or (size_aspect (type_of message.now.domains message.now.graph field) (tree_if_any size.now)) (formed_all fields.now) work.old.next (size_otherwise (type_of message.now.domains message.now.graph field) first.now)) ≡ false) }
 {
-    match scalar_type(message, scalars, field) {
+    match message.scalar(field) {
         Some(scalar) => fixed(alloc, scalar.size()),
-        None => open_size(alloc, size, first, message, scalars, fields, work),
+        None => open_size(alloc, size, first, message, fields, work),
     }
 }

@@ -1,16 +1,16 @@
-// The forms of a path, gathered link by link.
+//! The forms of a path, gathered link by link.
 
 ghost use Rattle.std.specs.Prelude.{◌≡◌, ◌<◌, ◌≤◌, ◌^◌, ◌++◌, ◌∷◌, [], true, false, IfErr, OnOk};
 ghost use Rattle.rx_types.specs.Tree.{tree_of};
 ghost use Rattle.rx_types.specs.Narrow.{IsNarrow};
 ghost use Rattle.rx_graph.specs.declared.message.Node.TheVariants.{At};
-ghost use Rattle.rx_graph.specs.Graph.{arrow_of, graph_of, type_of};
+ghost use Rattle.rx_graph.specs.Graph.{arrow_of, type_of};
 ghost use Rattle.rx_forms.specs.Linear.{plus};
 ghost use Rattle.rx_forms.specs.Normal.{IsCondition};
 ghost use Rattle.rx_forms.specs.Limits.{is_low, is_within};
 ghost use Rattle.rx_forms.specs.Steps.{scalars_in, IsFormable, IsNarrowLink};
 ghost use Rattle.rx_forms.specs.Worked.{number_at};
-ghost use Rattle.rx_forms.specs.Code.{number_by, formed, formed_all, domains_in, limits_in};
+ghost use Rattle.rx_forms.specs.Code.{number_by, formed, formed_all, limits};
 ghost use Rattle.rx_forms.specs.Fronts.{front_of, first_front, after_field, after_place, after_end, after_link, place_within, link_within};
 
 use crate::arithmetic::copy;
@@ -18,10 +18,9 @@ use crate::aspect::{first_form, low_sum, size_form};
 use crate::condition::condition_form;
 use crate::fault::FormFault;
 use crate::field::FieldForms;
-use crate::interval::scalar_type;
 use crate::linear::{Form, Linear};
 use crate::work::Work;
-use rx_graph::{Link, Message, Scalar};
+use rx_graph::{Elaborated, Link};
 use rx_types::FieldId;
 use sqlite_items::Items;
 use std::alloc::{AllocError, Global};
@@ -56,26 +55,21 @@ pub fn start(alloc: Global, scalars: usize) -> Builder
 }
 
 // The variable of a field's number, if it is a scalar.
-fn variable_at(
-    message: &Message,
-    scalars: &[Scalar],
-    field: FieldId,
-    scalar: usize,
-) -> Option<usize>
-    ensures { number_by result ≡ number_at (type_of (domains_in scalars.now) (graph_of message.now) field) scalar }
+fn variable_at(message: &Elaborated<'_>, field: FieldId, scalar: usize) -> Option<usize>
+    ensures { number_by result ≡ number_at (type_of message.now.domains message.now.graph field) scalar }
 {
-    match scalar_type(message, scalars, field) {
+    match message.scalar(field) {
         Some(_) => Some(scalar),
         None => None,
     }
 }
 
 /// 1 where a field is a scalar, else 0.
-pub fn scalars_in(message: &Message, scalars: &[Scalar], field: FieldId) -> usize
-    ensures value { result ≡ scalars_in (type_of (domains_in scalars.now) (graph_of message.now) field) }
+pub fn scalars_in(message: &Elaborated<'_>, field: FieldId) -> usize
+    ensures value { result ≡ scalars_in (type_of message.now.domains message.now.graph field) }
     ensures one { result ≤ 1 }
 {
-    match scalar_type(message, scalars, field) {
+    match message.scalar(field) {
         Some(_) => 1,
         None => 0,
     }
@@ -119,12 +113,11 @@ fn add_field(
     field: FieldId,
     first: Linear,
     size: Linear,
-    message: &Message,
-    scalars: &[Scalar],
+    message: &Elaborated<'_>,
     builder: &mut Builder,
 ) -> Result<(), FormFault>
     requires small { builder.old.scalar < 2 ^ 32 }
-    ensures gone { OnOk result (front_of builder.new ≡ after_field (type_of (domains_in scalars.now) (graph_of message.now) field) field first size (front_of builder.old)) }
+    ensures gone { OnOk result (front_of builder.new ≡ after_field (type_of message.now.domains message.now.graph field) field first size (front_of builder.old)) }
     ensures low { OnOk result (is_low (plus first size) ≡ true) }
     ensures limit { IfErr result (λ e. e ≡ FormFault.PathLimit → is_low (plus first size) ≡ false) }
 {
@@ -136,7 +129,7 @@ fn add_field(
         &first,
         &size,
     )?;
-    let variable = variable_at(message, scalars, field, builder.scalar);
+    let variable = variable_at(message, field, builder.scalar);
     let forms = FieldForms {
         field,
         first,
@@ -145,7 +138,7 @@ fn add_field(
         variable,
     };
     push_field(&mut builder.fields, forms)?;
-    builder.scalar += scalars_in(message, scalars, field);
+    builder.scalar += scalars_in(message, field);
     Ok(())
 }
 
@@ -155,24 +148,22 @@ fn place(
     alloc: Global,
     link: &Link,
     field: FieldId,
-    message: &Message,
-    scalars: &[Scalar],
+    message: &Elaborated<'_>,
     builder: &mut Builder,
 ) -> Result<(), FormFault>
-    requires formable { IsFormable (limits_in scalars.now message.now) (arrow_of link.now) }
-    requires narrow { IsNarrowLink (limits_in scalars.now message.now) (arrow_of link.now) }
+    requires formable { IsFormable (limits message.now) (arrow_of link.now) }
+    requires narrow { IsNarrowLink (limits message.now) (arrow_of link.now) }
     requires target { link.now.target ≡ At field }
     requires small { builder.old.scalar < 2 ^ 32 }
     requires room { builder.old.work.next ≤ 190 }
-    ensures gone { OnOk result (front_of builder.new ≡ after_place (domains_in scalars.now) (graph_of message.now) (type_of (domains_in scalars.now) (graph_of message.now) field) (front_of builder.old) (arrow_of link.now)) }
-    ensures within { OnOk result (place_within (type_of (domains_in scalars.now) (graph_of message.now) field) (front_of builder.old) (arrow_of link.now) ≡ true) }
-    ensures limit { IfErr result (λ e. e ≡ FormFault.PathLimit → place_within (type_of (domains_in scalars.now) (graph_of message.now) field) (front_of builder.old) (arrow_of link.now) ≡ false) }
+    ensures gone { OnOk result (front_of builder.new ≡ after_place message.now.domains message.now.graph (type_of message.now.domains message.now.graph field) (front_of builder.old) (arrow_of link.now)) }
+    ensures within { OnOk result (place_within (type_of message.now.domains message.now.graph field) (front_of builder.old) (arrow_of link.now) ≡ true) }
+    ensures limit { IfErr result (λ e. e ≡ FormFault.PathLimit → place_within (type_of message.now.domains message.now.graph field) (front_of builder.old) (arrow_of link.now) ≡ false) }
 {
     let first = first_form(
         alloc,
         &link.first,
         message,
-        scalars,
         builder.fields.as_slice(),
         &mut builder.work,
     )?;
@@ -182,11 +173,10 @@ fn place(
         &link.size,
         &first,
         message,
-        scalars,
         builder.fields.as_slice(),
         &mut builder.work,
     )?;
-    add_field(alloc, field, first, size, message, scalars, builder)
+    add_field(alloc, field, first, size, message, builder)
 }
 
 /// Gathers the condition of a link, where the fields end.
@@ -194,14 +184,13 @@ fn place(
 pub fn add_condition(
     alloc: Global,
     link: &Link,
-    message: &Message,
-    scalars: &[Scalar],
+    message: &Elaborated<'_>,
     builder: &mut Builder,
 ) -> Result<(), FormFault>
-    requires condition { IsCondition (limits_in scalars.now message.now) (tree_of link.now.condition) }
-    requires narrow { IsNarrow (limits_in scalars.now message.now) (tree_of link.now.condition) }
+    requires condition { IsCondition (limits message.now) (tree_of link.now.condition) }
+    requires narrow { IsNarrow (limits message.now) (tree_of link.now.condition) }
     requires room { builder.old.work.next ≤ 190 }
-    ensures gone { OnOk result (front_of builder.new ≡ after_end (domains_in scalars.now) (graph_of message.now) (front_of builder.old) (arrow_of link.now)) }
+    ensures gone { OnOk result (front_of builder.new ≡ after_end message.now.domains message.now.graph (front_of builder.old) (arrow_of link.now)) }
     ensures within { OnOk result (is_within (formed_all builder.old.fields.items) builder.old.work.next (tree_of link.now.condition) ≡ true) }
     ensures limit { IfErr result (λ e. e ≡ FormFault.PathLimit → is_within (formed_all builder.old.fields.items) builder.old.work.next (tree_of link.now.condition) ≡ false) }
 {
@@ -210,7 +199,6 @@ pub fn add_condition(
         &link.condition,
         true,
         message,
-        scalars,
         builder.fields.as_slice(),
         &mut builder.work,
     )?;
@@ -224,19 +212,18 @@ pub fn add_link(
     alloc: Global,
     link: &Link,
     field: FieldId,
-    message: &Message,
-    scalars: &[Scalar],
+    message: &Elaborated<'_>,
     builder: &mut Builder,
 ) -> Result<(), FormFault>
-    requires formable { IsFormable (limits_in scalars.now message.now) (arrow_of link.now) }
-    requires narrow { IsNarrowLink (limits_in scalars.now message.now) (arrow_of link.now) }
+    requires formable { IsFormable (limits message.now) (arrow_of link.now) }
+    requires narrow { IsNarrowLink (limits message.now) (arrow_of link.now) }
     requires target { link.now.target ≡ At field }
     requires small { builder.old.scalar < 2 ^ 32 }
     requires room { builder.old.work.next ≤ 190 }
-    ensures gone { OnOk result (front_of builder.new ≡ after_link (domains_in scalars.now) (graph_of message.now) (front_of builder.old) (arrow_of link.now)) }
-    ensures within { OnOk result (link_within (domains_in scalars.now) (graph_of message.now) (front_of builder.old) (arrow_of link.now) ≡ true) }
-    ensures limit { IfErr result (λ e. e ≡ FormFault.PathLimit → link_within (domains_in scalars.now) (graph_of message.now) (front_of builder.old) (arrow_of link.now) ≡ false) }
+    ensures gone { OnOk result (front_of builder.new ≡ after_link message.now.domains message.now.graph (front_of builder.old) (arrow_of link.now)) }
+    ensures within { OnOk result (link_within message.now.domains message.now.graph (front_of builder.old) (arrow_of link.now) ≡ true) }
+    ensures limit { IfErr result (λ e. e ≡ FormFault.PathLimit → link_within message.now.domains message.now.graph (front_of builder.old) (arrow_of link.now) ≡ false) }
 {
-    add_condition(alloc, link, message, scalars, builder)?;
-    place(alloc, link, field, message, scalars, builder)
+    add_condition(alloc, link, message, builder)?;
+    place(alloc, link, field, message, builder)
 }

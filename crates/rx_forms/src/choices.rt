@@ -4,11 +4,11 @@ ghost use Rattle.std.specs.Prelude.{◌≡◌, ◌≤◌, ◌<◌, ◌+◌, ◌&
 ghost use Rattle.std.specs.List.{list_all};
 ghost use Rattle.rx_types.specs.Tree.{tree_of};
 ghost use Rattle.rx_types.specs.Narrow.{IsNarrow};
-ghost use Rattle.rx_graph.specs.Graph.{arrow_of, graph_of};
+ghost use Rattle.rx_graph.specs.Graph.{arrow_of};
 ghost use Rattle.rx_forms.specs.Normal.{IsCondition};
-ghost use Rattle.rx_forms.specs.Steps.{AreFormable, AreNarrow, links_on, scalars_on};
+ghost use Rattle.rx_forms.specs.Steps.{links_on, scalars_on};
 ghost use Rattle.rx_forms.specs.Gathered.{into_fields};
-ghost use Rattle.rx_forms.specs.Code.{formed_all, domains_in, limits_in};
+ghost use Rattle.rx_forms.specs.Code.{formed_all, limits};
 ghost use Rattle.rx_forms.specs.Fronts.{front_of};
 ghost use Rattle.rx_forms.specs.PathLimit.{ones_and_pairs};
 ghost use Rattle.rx_forms.specs.Choices.{conditions_within, asked, front_along, front_within};
@@ -18,9 +18,9 @@ use crate::condition::condition_form;
 use crate::fault::{FormFault, NoMemory};
 use crate::field::FieldForms;
 use crate::forms::gather_path;
-use crate::gather::link_at;
+use crate::laws::links_have_forms;
 use crate::work::Work;
-use rx_graph::{Link, Message, Scalar};
+use rx_graph::{Elaborated, Link};
 use sqlite_items::Items;
 use std::alloc::Global;
 
@@ -29,20 +29,17 @@ pub fn reach(
     alloc: Global,
     count: usize,
     path: &[u16],
-    message: &Message,
-    scalars: &[Scalar],
+    message: &Elaborated<'_>,
 ) -> Result<Builder, FormFault>
-    requires formable { AreFormable (limits_in scalars.now message.now) (graph_of message.now) }
-    requires narrow { AreNarrow (limits_in scalars.now message.now) (graph_of message.now) }
-    requires count { count ≡ scalars_on (domains_in scalars.now) (graph_of message.now) (into_fields (links_on (domains_in scalars.now) (graph_of message.now) path.now)) }
+    requires count { count ≡ scalars_on message.now.domains message.now.graph (into_fields (links_on message.now.domains message.now.graph path.now)) }
     requires few { count < 190 }
-    ensures front { IfOk result (λ b. front_of b ≡ front_along (domains_in scalars.now) (graph_of message.now) path.now) }
-    ensures within { OnOk result (front_within (domains_in scalars.now) (graph_of message.now) path.now ≡ true) }
+    ensures front { IfOk result (λ b. front_of b ≡ front_along message.now.domains message.now.graph path.now) }
+    ensures within { OnOk result (front_within message.now.domains message.now.graph path.now ≡ true) }
     ensures room { IfOk result (λ b. b.work.next ≤ 190) }
-    ensures limit { IfErr result (λ e. e ≡ FormFault.PathLimit → front_within (domains_in scalars.now) (graph_of message.now) path.now ≡ false) }
+    ensures limit { IfErr result (λ e. e ≡ FormFault.PathLimit → front_within message.now.domains message.now.graph path.now ≡ false) }
 {
     let mut builder = start(alloc, count);
-    gather_path(alloc, path, message, scalars, &mut builder)?;
+    gather_path(alloc, path, message, &mut builder)?;
     Ok(builder)
 }
 
@@ -50,27 +47,18 @@ pub fn reach(
 fn ask_link(
     alloc: Global,
     link: &Link,
-    message: &Message,
-    scalars: &[Scalar],
+    message: &Elaborated<'_>,
     fields: &[FieldForms],
     next: usize,
 ) -> Result<Option<usize>, NoMemory>
-    requires condition { IsCondition (limits_in scalars.now message.now) (tree_of link.now.condition) }
-    requires narrow { IsNarrow (limits_in scalars.now message.now) (tree_of link.now.condition) }
+    requires condition { IsCondition (limits message.now) (tree_of link.now.condition) }
+    requires narrow { IsNarrow (limits message.now) (tree_of link.now.condition) }
     requires room { next ≤ 190 }
     ensures { IfOk result (λ after. after ≡ asked (formed_all fields.now) next (arrow_of link.now ∷ [])) }
 {
     let rows = Items::new(alloc);
     let mut work = Work { next, rows };
-    match condition_form(
-        alloc,
-        &link.condition,
-        true,
-        message,
-        scalars,
-        fields,
-        &mut work,
-    ) {
+    match condition_form(alloc, &link.condition, true, message, fields, &mut work) {
         Ok(_) => Ok(Some(work.next)),
         Err(FormFault::PathLimit) => Ok(None),
         Err(FormFault::NoMemory) => Err(NoMemory),
@@ -81,18 +69,16 @@ fn ask_link(
 fn ask(
     alloc: Global,
     index: u16,
-    message: &Message,
-    scalars: &[Scalar],
+    message: &Elaborated<'_>,
     fields: &[FieldForms],
     next: usize,
 ) -> Result<Option<usize>, NoMemory>
-    requires formable { AreFormable (limits_in scalars.now message.now) (graph_of message.now) }
-    requires narrow { AreNarrow (limits_in scalars.now message.now) (graph_of message.now) }
     requires room { next ≤ 190 }
-    ensures { IfOk result (λ after. after ≡ asked (formed_all fields.now) next (links_on (domains_in scalars.now) (graph_of message.now) (index ∷ []))) }
+    ensures { IfOk result (λ after. after ≡ asked (formed_all fields.now) next (links_on message.now.domains message.now.graph (index ∷ []))) }
 {
-    match link_at(message, index) {
-        Some(link) => ask_link(alloc, link, message, scalars, fields, next),
+    links_have_forms(message);
+    match message.link(index) {
+        Some(link) => ask_link(alloc, link, message, fields, next),
         None => Ok(Some(next)),
     }
 }
@@ -101,17 +87,14 @@ fn ask(
 fn keeps_one(
     alloc: Global,
     index: u16,
-    message: &Message,
-    scalars: &[Scalar],
+    message: &Elaborated<'_>,
     fields: &[FieldForms],
     next: usize,
 ) -> Result<bool, NoMemory>
-    requires formable { AreFormable (limits_in scalars.now message.now) (graph_of message.now) }
-    requires narrow { AreNarrow (limits_in scalars.now message.now) (graph_of message.now) }
     requires room { next ≤ 190 }
-    ensures { IfOk result (λ kept. kept ≡ conditions_within (formed_all fields.now) next (links_on (domains_in scalars.now) (graph_of message.now) (index ∷ []))) }
+    ensures { IfOk result (λ kept. kept ≡ conditions_within (formed_all fields.now) next (links_on message.now.domains message.now.graph (index ∷ []))) }
 {
-    let after = ask(alloc, index, message, scalars, fields, next)?;
+    let after = ask(alloc, index, message, fields, next)?;
     match after {
         None => Ok(false),
         Some(_) => Ok(true),
@@ -122,18 +105,15 @@ fn keeps_one(
 fn keeps_ones(
     alloc: Global,
     numbers: &[u16],
-    message: &Message,
-    scalars: &[Scalar],
+    message: &Elaborated<'_>,
     fields: &[FieldForms],
     next: usize,
 ) -> Result<bool, NoMemory>
-    requires formable { AreFormable (limits_in scalars.now message.now) (graph_of message.now) }
-    requires narrow { AreNarrow (limits_in scalars.now message.now) (graph_of message.now) }
     requires room { next ≤ 190 }
-    ensures { IfOk result (λ kept. kept ≡ list_all (λ i. conditions_within (formed_all fields.now) next (links_on (domains_in scalars.now) (graph_of message.now) (i ∷ []))) numbers.now) }
+    ensures { IfOk result (λ kept. kept ≡ list_all (λ i. conditions_within (formed_all fields.now) next (links_on message.now.domains message.now.graph (i ∷ []))) numbers.now) }
 {
     for index in numbers {
-        let kept = keeps_one(alloc, *index, message, scalars, fields, next)?;
+        let kept = keeps_one(alloc, *index, message, fields, next)?;
         if !kept {
             return Ok(false);
         }
@@ -147,18 +127,15 @@ fn keeps_first(
     alloc: Global,
     numbers: &[u16],
     place: usize,
-    message: &Message,
-    scalars: &[Scalar],
+    message: &Elaborated<'_>,
     fields: &[FieldForms],
     next: usize,
 ) -> Result<bool, NoMemory>
-    requires formable { AreFormable (limits_in scalars.now message.now) (graph_of message.now) }
-    requires narrow { AreNarrow (limits_in scalars.now message.now) (graph_of message.now) }
     requires room { next ≤ 190 }
     requires place { place < length numbers.now }
-    ensures { IfOk result (λ kept. list_all (λ out. conditions_within (formed_all fields.now) next (links_on (domains_in scalars.now) (graph_of message.now) out)) (ones_and_pairs (drop place numbers.now)) ≡ (kept && list_all (λ out. conditions_within (formed_all fields.now) next (links_on (domains_in scalars.now) (graph_of message.now) out)) (ones_and_pairs (drop (place + 1) numbers.now)))) }
+    ensures { IfOk result (λ kept. list_all (λ out. conditions_within (formed_all fields.now) next (links_on message.now.domains message.now.graph out)) (ones_and_pairs (drop place numbers.now)) ≡ (kept && list_all (λ out. conditions_within (formed_all fields.now) next (links_on message.now.domains message.now.graph out)) (ones_and_pairs (drop (place + 1) numbers.now)))) }
 {
-    let after = ask(alloc, numbers[place], message, scalars, fields, next)?;
+    let after = ask(alloc, numbers[place], message, fields, next)?;
     match after {
         None => Ok(false),
         Some(after) => {
@@ -166,7 +143,7 @@ fn keeps_first(
                 return Ok(true);
             }
             let later = &numbers[place + 1..];
-            keeps_ones(alloc, later, message, scalars, fields, after)
+            keeps_ones(alloc, later, message, fields, after)
         }
     }
 }
@@ -175,18 +152,15 @@ fn keeps_first(
 pub fn keeps_choices(
     alloc: Global,
     numbers: &[u16],
-    message: &Message,
-    scalars: &[Scalar],
+    message: &Elaborated<'_>,
     fields: &[FieldForms],
     next: usize,
 ) -> Result<bool, NoMemory>
-    requires formable { AreFormable (limits_in scalars.now message.now) (graph_of message.now) }
-    requires narrow { AreNarrow (limits_in scalars.now message.now) (graph_of message.now) }
     requires room { next ≤ 190 }
-    ensures { IfOk result (λ kept. kept ≡ list_all (λ out. conditions_within (formed_all fields.now) next (links_on (domains_in scalars.now) (graph_of message.now) out)) (ones_and_pairs numbers.now)) }
+    ensures { IfOk result (λ kept. kept ≡ list_all (λ out. conditions_within (formed_all fields.now) next (links_on message.now.domains message.now.graph out)) (ones_and_pairs numbers.now)) }
 {
     for place in 0..numbers.len() {
-        let kept = keeps_first(alloc, numbers, place, message, scalars, fields, next)?;
+        let kept = keeps_first(alloc, numbers, place, message, fields, next)?;
         if !kept {
             return Ok(false);
         }

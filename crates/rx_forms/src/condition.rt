@@ -1,6 +1,6 @@
-// The facts of expressions that are conditions.
+//! The facts of expressions that are conditions.
 
-ghost use Rattle.std.specs.Prelude.{◌≡◌, ℕ, ◌≤◌, ◌&&◌, [], pos, true, false, IfOk, IfErr, OnOk};
+ghost use Rattle.std.specs.Prelude.{◌≡◌, ℕ, ◌≤◌, pos, true, false, IfOk, IfErr, OnOk};
 ghost use Rattle.rx_types.specs.Tree.{tree_of};
 ghost use Rattle.rx_types.specs.Value.{truth_value};
 ghost use Rattle.rx_types.specs.Narrow.{IsNarrow};
@@ -9,7 +9,7 @@ ghost use Rattle.rx_forms.specs.Linear.{constant, minus, less_one, equal};
 ghost use Rattle.rx_forms.specs.Normal.{formed_of, agree, joined, settled, condition, IsNumeric, IsCondition};
 ghost use Rattle.rx_forms.specs.Limits.{is_low, all_kept, differences, is_within, sides_within};
 ghost use Rattle.rx_forms.specs.Worked.{IsTruth, multiple, by_differences, spelled_in, agreed, takes_all, HasComparison, HasFact};
-ghost use Rattle.rx_forms.specs.Code.{number_by, formed_all, limits_in};
+ghost use Rattle.rx_forms.specs.Code.{number_by, formed_all, limits};
 
 use crate::arithmetic::{constant, minus, one_less, term};
 use crate::entry::variable_of;
@@ -19,7 +19,7 @@ use crate::limit::keep_low;
 use crate::linear::{Form, Linear};
 use crate::number::number_form;
 use crate::work::Work;
-use rx_graph::{Message, Scalar};
+use rx_graph::Elaborated;
 use rx_types::{Expr, FieldId, Operator};
 use sqlite_items::Items;
 use std::alloc::{AllocError, Global};
@@ -249,19 +249,18 @@ fn compared(
     wanted: bool,
     left: &Expr,
     right: &Expr,
-    message: &Message,
-    scalars: &[Scalar],
+    message: &Elaborated<'_>,
     fields: &[FieldForms],
     work: &mut Work,
 ) -> Result<Form, FormFault>
-    requires left { IsNumeric (tree_of left.now) × IsNarrow (limits_in scalars.now message.now) (tree_of left.now) }
-    requires right { IsNumeric (tree_of right.now) × IsNarrow (limits_in scalars.now message.now) (tree_of right.now) }
+    requires left { IsNumeric (tree_of left.now) × IsNarrow (limits message.now) (tree_of left.now) }
+    requires right { IsNumeric (tree_of right.now) × IsNarrow (limits message.now) (tree_of right.now) }
     requires room { work.old.next ≤ 190 }
-    ensures fact { IfOk result (λ f. HasComparison (limits_in scalars.now message.now) (formed_all fields.now) operator wanted (tree_of left.now) (tree_of right.now) work.old work.new f) }
+    ensures fact { IfOk result (λ f. HasComparison (limits message.now) (formed_all fields.now) operator wanted (tree_of left.now) (tree_of right.now) work.old work.new f) }
     ensures limit { IfErr result (λ e. e ≡ FormFault.PathLimit → sides_within (formed_all fields.now) work.old.next (tree_of left.now) (tree_of right.now) ≡ false) }
 {
-    let left = number_form(alloc, left, message, scalars, fields, work)?;
-    let right = number_form(alloc, right, message, scalars, fields, work)?;
+    let left = number_form(alloc, left, message, fields, work)?;
+    let right = number_form(alloc, right, message, fields, work)?;
     comparison(alloc, operator, wanted, &left, &right)
 }
 
@@ -271,38 +270,35 @@ pub fn condition_form(
     alloc: Global,
     expr: &Expr,
     wanted: bool,
-    message: &Message,
-    scalars: &[Scalar],
+    message: &Elaborated<'_>,
     fields: &[FieldForms],
     work: &mut Work,
 ) -> Result<Form, FormFault>
-    requires condition { IsCondition (limits_in scalars.now message.now) (tree_of expr.now) }
-    requires narrow { IsNarrow (limits_in scalars.now message.now) (tree_of expr.now) }
+    requires condition { IsCondition (limits message.now) (tree_of expr.now) }
+    requires narrow { IsNarrow (limits message.now) (tree_of expr.now) }
     requires room { work.old.next ≤ 190 }
-    ensures fact { IfOk result (λ f. HasFact (limits_in scalars.now message.now) (formed_all fields.now) wanted (tree_of expr.now) work.old work.new f) }
+    ensures fact { IfOk result (λ f. HasFact (limits message.now) (formed_all fields.now) wanted (tree_of expr.now) work.old work.new f) }
     ensures limit { IfErr result (λ e. e ≡ FormFault.PathLimit → is_within (formed_all fields.now) work.old.next (tree_of expr.now) ≡ false) }
 {
     match expr {
-        Expr::Not(part) => condition_form(alloc, part, !wanted, message, scalars, fields, work),
+        Expr::Not(part) => condition_form(alloc, part, !wanted, message, fields, work),
         Expr::Binary(operator, left, right) => match operator {
             Operator::And | Operator::Or => {
-                let left = condition_form(alloc, left, wanted, message, scalars, fields, work)?;
-                let right = condition_form(alloc, right, wanted, message, scalars, fields, work)?;
+                let left = condition_form(alloc, left, wanted, message, fields, work)?;
+                let right = condition_form(alloc, right, wanted, message, fields, work)?;
                 let all = takes_all(*operator, wanted);
                 Ok(pair(alloc, all, left, right)?)
             }
             _ => {
                 if let Some(truth) = spelled_in(*operator, left) {
                     let wanted = agreed(*operator, wanted, truth);
-                    return condition_form(alloc, right, wanted, message, scalars, fields, work);
+                    return condition_form(alloc, right, wanted, message, fields, work);
                 }
                 if let Some(truth) = spelled_in(*operator, right) {
                     let wanted = agreed(*operator, wanted, truth);
-                    return condition_form(alloc, left, wanted, message, scalars, fields, work);
+                    return condition_form(alloc, left, wanted, message, fields, work);
                 }
-                compared(
-                    alloc, *operator, wanted, left, right, message, scalars, fields, work,
-                )
+                compared(alloc, *operator, wanted, left, right, message, fields, work)
             }
         },
         _ => Ok(leaf_fact(alloc, expr, wanted, fields)?),

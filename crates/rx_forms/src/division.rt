@@ -1,11 +1,11 @@
-// The rows of a division, which leave its quotient no choice.
+//! The rows of a division, which leave its quotient no choice.
 
 ghost use Rattle.std.specs.Prelude.{◌≡◌, ◌+◌, ◌^◌, ◌++◌, ◌∷◌, [], pos, negsuc, neg_ℤ, ◌-ℤ◌, ◌<ℤ◌, ◌&&◌, nat_le, true, false, IfOk, IfErr, OnOk};
 ghost use Rattle.std.specs.Int.{int_div_euclid};
 ghost use Rattle.rx_types.specs.Narrow.{IsShort};
 ghost use Rattle.rx_forms.specs.Linear.{term, minus};
 ghost use Rattle.rx_forms.specs.Divisions.{division_rows};
-ghost use Rattle.rx_forms.specs.Limits.{has_words, is_low, all_kept, divided};
+ghost use Rattle.rx_forms.specs.Limits.{has_words, all_kept, divided};
 
 use crate::arithmetic::{minus, term};
 use crate::fault::FormFault;

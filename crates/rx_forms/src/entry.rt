@@ -1,4 +1,4 @@
-// The sums of a field by its id.
+//! The sums of a field by its id.
 
 ghost use Rattle.std.specs.Prelude.{◌≡◌, [], IfOk, IfSome, None};
 ghost use Rattle.rx_forms.specs.Normal.{formed_of};

@@ -1,4 +1,4 @@
-// Why no forms were made.
+//! Why no forms were made.
 use std::alloc::{AllocError, AllocFailed};
 
 /// Want of memory.

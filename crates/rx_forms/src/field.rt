@@ -1,4 +1,4 @@
-// A field's place and number as sums.
+//! A field's place and number as sums.
 use crate::linear::Linear;
 use rx_types::FieldId;
 

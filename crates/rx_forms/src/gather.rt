@@ -1,56 +1,47 @@
-// The links of a path, gathered in order.
+//! The links of a path, gathered in order.
 
-ghost use Rattle.std.specs.Prelude.{◌≡◌, ℕ, ◌+◌, ◌≤◌, ◌∷◌, [], true, false, not, ◌||◌, IfErr, OnOk, slice_get};
-ghost use Rattle.std.specs.Option.{option_copied};
+ghost use Rattle.std.specs.Prelude.{◌≡◌, ℕ, ◌+◌, ◌≤◌, ◌∷◌, [], true, false, not, ◌||◌, IfErr, OnOk};
 ghost use Rattle.rx_graph.specs.Cycles.{IsLink};
-ghost use Rattle.rx_graph.specs.Graph.{arrow_of, graph_of};
-ghost use Rattle.rx_forms.specs.Steps.{AreFormable, AreNarrow, leads_to_field, links_on, scalars_on};
+ghost use Rattle.rx_graph.specs.Graph.{arrow_of};
+ghost use Rattle.rx_forms.specs.Steps.{leads_to_field, links_on, scalars_on};
 ghost use Rattle.rx_forms.specs.Gathered.{into_fields};
-ghost use Rattle.rx_forms.specs.Code.{domains_in, limits_in};
 ghost use Rattle.rx_forms.specs.Fronts.{front_of, after_links, links_within, after_ends, ends_within, ends_of};
 
 use crate::builder::{Builder, add_condition, add_link, scalars_in};
 use crate::fault::FormFault;
-use rx_graph::{Link, Message, Node, Scalar};
-use sqlite_items::at;
+use crate::laws::links_have_forms;
+use rx_graph::{Elaborated, Link, Node};
 use std::alloc::Global;
 
 // How many scalars a link leads to, 1 or 0.
-fn scalars_at(link: &Link, message: &Message, scalars: &[Scalar]) -> usize
-    ensures value { result ≡ scalars_on (domains_in scalars.now) (graph_of message.now) (into_fields (arrow_of link.now ∷ [])) }
+fn scalars_at(link: &Link, message: &Elaborated<'_>) -> usize
+    ensures value { result ≡ scalars_on message.now.domains message.now.graph (into_fields (arrow_of link.now ∷ [])) }
     ensures one { result ≤ 1 }
 {
     match link.target {
-        Node::At(field) => scalars_in(message, scalars, field),
+        Node::At(field) => scalars_in(message, field),
         _ => 0,
     }
 }
 
-/// The link at an index, if there is one.
-pub fn link_at(message: &Message, index: u16) -> Option<&Link>
-    ensures { option_copied result ≡ slice_get message.now.links.items index }
-{
-    at(message.links.as_slice(), index as usize)
-}
-
 // How many scalars the link at an index leads to.
-fn scalars_under(index: u16, message: &Message, scalars: &[Scalar]) -> usize
-    ensures value { result ≡ scalars_on (domains_in scalars.now) (graph_of message.now) (into_fields (links_on (domains_in scalars.now) (graph_of message.now) (index ∷ []))) }
+fn scalars_under(index: u16, message: &Elaborated<'_>) -> usize
+    ensures value { result ≡ scalars_on message.now.domains message.now.graph (into_fields (links_on message.now.domains message.now.graph (index ∷ []))) }
     ensures one { result ≤ 1 }
 {
-    match link_at(message, index) {
-        Some(link) => scalars_at(link, message, scalars),
+    match message.link(index) {
+        Some(link) => scalars_at(link, message),
         None => 0,
     }
 }
 
 /// How many scalars a path leads through.
-pub fn scalars_along(path: &[u16], message: &Message, scalars: &[Scalar]) -> usize
-    ensures { result ≡ scalars_on (domains_in scalars.now) (graph_of message.now) (into_fields (links_on (domains_in scalars.now) (graph_of message.now) path.now)) }
+pub fn scalars_along(path: &[u16], message: &Elaborated<'_>) -> usize
+    ensures { result ≡ scalars_on message.now.domains message.now.graph (into_fields (links_on message.now.domains message.now.graph path.now)) }
 {
     let mut count = 0;
     for index in path {
-        count += scalars_under(*index, message, scalars);
+        count += scalars_under(*index, message);
     }
     count
 }
@@ -62,21 +53,19 @@ pub fn scalars_along(path: &[u16], message: &Message, scalars: &[Scalar]) -> usi
 fn gather_link(
     alloc: Global,
     link: &Link,
-    message: &Message,
-    scalars: &[Scalar],
+    message: &Elaborated<'_>,
     builder: &mut Builder,
 ) -> Result<(), FormFault>
-    requires link { (i : ℕ) × IsLink (graph_of message.now) i (arrow_of link.now) }
-    requires formable { AreFormable (limits_in scalars.now message.now) (graph_of message.now) }
-    requires narrow { AreNarrow (limits_in scalars.now message.now) (graph_of message.now) }
+    requires link { (i : ℕ) × IsLink message.now.graph i (arrow_of link.now) }
     requires few { builder.old.scalar ≤ 190 }
     requires room { builder.old.work.next ≤ 190 }
-    ensures gone { OnOk result (front_of builder.new ≡ after_links (domains_in scalars.now) (graph_of message.now) (front_of builder.old) (into_fields (arrow_of link.now ∷ []))) }
-    ensures within { OnOk result (links_within (domains_in scalars.now) (graph_of message.now) (front_of builder.old) (into_fields (arrow_of link.now ∷ [])) ≡ true) }
-    ensures limit { IfErr result (λ e. e ≡ FormFault.PathLimit → links_within (domains_in scalars.now) (graph_of message.now) (front_of builder.old) (into_fields (arrow_of link.now ∷ [])) ≡ false) }
+    ensures gone { OnOk result (front_of builder.new ≡ after_links message.now.domains message.now.graph (front_of builder.old) (into_fields (arrow_of link.now ∷ []))) }
+    ensures within { OnOk result (links_within message.now.domains message.now.graph (front_of builder.old) (into_fields (arrow_of link.now ∷ [])) ≡ true) }
+    ensures limit { IfErr result (λ e. e ≡ FormFault.PathLimit → links_within message.now.domains message.now.graph (front_of builder.old) (into_fields (arrow_of link.now ∷ [])) ≡ false) }
 {
+    links_have_forms(message);
     match link.target {
-        Node::At(field) => add_link(alloc, link, field, message, scalars, builder),
+        Node::At(field) => add_link(alloc, link, field, message, builder),
         _ => Ok(()),
     }
 }
@@ -86,20 +75,17 @@ fn gather_link(
 fn gather_index(
     alloc: Global,
     index: u16,
-    message: &Message,
-    scalars: &[Scalar],
+    message: &Elaborated<'_>,
     builder: &mut Builder,
 ) -> Result<(), FormFault>
-    requires formable { AreFormable (limits_in scalars.now message.now) (graph_of message.now) }
-    requires narrow { AreNarrow (limits_in scalars.now message.now) (graph_of message.now) }
     requires few { builder.old.scalar ≤ 190 }
     requires room { builder.old.work.next ≤ 190 }
-    ensures gone { OnOk result (front_of builder.new ≡ after_links (domains_in scalars.now) (graph_of message.now) (front_of builder.old) (into_fields (links_on (domains_in scalars.now) (graph_of message.now) (index ∷ [])))) }
-    ensures within { OnOk result (links_within (domains_in scalars.now) (graph_of message.now) (front_of builder.old) (into_fields (links_on (domains_in scalars.now) (graph_of message.now) (index ∷ []))) ≡ true) }
-    ensures limit { IfErr result (λ e. e ≡ FormFault.PathLimit → links_within (domains_in scalars.now) (graph_of message.now) (front_of builder.old) (into_fields (links_on (domains_in scalars.now) (graph_of message.now) (index ∷ []))) ≡ false) }
+    ensures gone { OnOk result (front_of builder.new ≡ after_links message.now.domains message.now.graph (front_of builder.old) (into_fields (links_on message.now.domains message.now.graph (index ∷ [])))) }
+    ensures within { OnOk result (links_within message.now.domains message.now.graph (front_of builder.old) (into_fields (links_on message.now.domains message.now.graph (index ∷ []))) ≡ true) }
+    ensures limit { IfErr result (λ e. e ≡ FormFault.PathLimit → links_within message.now.domains message.now.graph (front_of builder.old) (into_fields (links_on message.now.domains message.now.graph (index ∷ []))) ≡ false) }
 {
-    match link_at(message, index) {
-        Some(link) => gather_link(alloc, link, message, scalars, builder),
+    match message.link(index) {
+        Some(link) => gather_link(alloc, link, message, builder),
         None => Ok(()),
     }
 }
@@ -108,20 +94,17 @@ fn gather_index(
 pub fn gather_fields(
     alloc: Global,
     path: &[u16],
-    message: &Message,
-    scalars: &[Scalar],
+    message: &Elaborated<'_>,
     builder: &mut Builder,
 ) -> Result<(), FormFault>
-    requires formable { AreFormable (limits_in scalars.now message.now) (graph_of message.now) }
-    requires narrow { AreNarrow (limits_in scalars.now message.now) (graph_of message.now) }
-    requires few { builder.old.scalar + scalars_on (domains_in scalars.now) (graph_of message.now) (into_fields (links_on (domains_in scalars.now) (graph_of message.now) path.now)) ≤ 190 }
+    requires few { builder.old.scalar + scalars_on message.now.domains message.now.graph (into_fields (links_on message.now.domains message.now.graph path.now)) ≤ 190 }
     requires room { builder.old.work.next ≤ 190 }
-    ensures gone { OnOk result (front_of builder.new ≡ after_links (domains_in scalars.now) (graph_of message.now) (front_of builder.old) (into_fields (links_on (domains_in scalars.now) (graph_of message.now) path.now))) }
-    ensures within { OnOk result (links_within (domains_in scalars.now) (graph_of message.now) (front_of builder.old) (into_fields (links_on (domains_in scalars.now) (graph_of message.now) path.now)) ≡ true) }
-    ensures limit { IfErr result (λ e. e ≡ FormFault.PathLimit → links_within (domains_in scalars.now) (graph_of message.now) (front_of builder.old) (into_fields (links_on (domains_in scalars.now) (graph_of message.now) path.now)) ≡ false) }
+    ensures gone { OnOk result (front_of builder.new ≡ after_links message.now.domains message.now.graph (front_of builder.old) (into_fields (links_on message.now.domains message.now.graph path.now))) }
+    ensures within { OnOk result (links_within message.now.domains message.now.graph (front_of builder.old) (into_fields (links_on message.now.domains message.now.graph path.now)) ≡ true) }
+    ensures limit { IfErr result (λ e. e ≡ FormFault.PathLimit → links_within message.now.domains message.now.graph (front_of builder.old) (into_fields (links_on message.now.domains message.now.graph path.now)) ≡ false) }
 {
     for index in path {
-        gather_index(alloc, *index, message, scalars, builder)?;
+        gather_index(alloc, *index, message, builder)?;
     }
     Ok(())
 }
@@ -134,20 +117,18 @@ fn gather_end(
     alloc: Global,
     link: &Link,
     all: bool,
-    message: &Message,
-    scalars: &[Scalar],
+    message: &Elaborated<'_>,
     builder: &mut Builder,
 ) -> Result<(), FormFault>
-    requires link { (i : ℕ) × IsLink (graph_of message.now) i (arrow_of link.now) }
-    requires formable { AreFormable (limits_in scalars.now message.now) (graph_of message.now) }
-    requires narrow { AreNarrow (limits_in scalars.now message.now) (graph_of message.now) }
+    requires link { (i : ℕ) × IsLink message.now.graph i (arrow_of link.now) }
     requires room { builder.old.work.next ≤ 190 }
-    ensures gone { OnOk result (front_of builder.new ≡ after_ends (domains_in scalars.now) (graph_of message.now) (front_of builder.old) (ends_of all (arrow_of link.now ∷ []))) }
-    ensures within { OnOk result (ends_within (domains_in scalars.now) (graph_of message.now) (front_of builder.old) (ends_of all (arrow_of link.now ∷ [])) ≡ true) }
-    ensures limit { IfErr result (λ e. e ≡ FormFault.PathLimit → ends_within (domains_in scalars.now) (graph_of message.now) (front_of builder.old) (ends_of all (arrow_of link.now ∷ [])) ≡ false) }
+    ensures gone { OnOk result (front_of builder.new ≡ after_ends message.now.domains message.now.graph (front_of builder.old) (ends_of all (arrow_of link.now ∷ []))) }
+    ensures within { OnOk result (ends_within message.now.domains message.now.graph (front_of builder.old) (ends_of all (arrow_of link.now ∷ [])) ≡ true) }
+    ensures limit { IfErr result (λ e. e ≡ FormFault.PathLimit → ends_within message.now.domains message.now.graph (front_of builder.old) (ends_of all (arrow_of link.now ∷ [])) ≡ false) }
 {
+    links_have_forms(message);
     if is_asked(all, link) {
-        add_condition(alloc, link, message, scalars, builder)
+        add_condition(alloc, link, message, builder)
     } else {
         Ok(())
     }
@@ -175,19 +156,16 @@ fn gather_end_at(
     alloc: Global,
     index: u16,
     all: bool,
-    message: &Message,
-    scalars: &[Scalar],
+    message: &Elaborated<'_>,
     builder: &mut Builder,
 ) -> Result<(), FormFault>
-    requires formable { AreFormable (limits_in scalars.now message.now) (graph_of message.now) }
-    requires narrow { AreNarrow (limits_in scalars.now message.now) (graph_of message.now) }
     requires room { builder.old.work.next ≤ 190 }
-    ensures gone { OnOk result (front_of builder.new ≡ after_ends (domains_in scalars.now) (graph_of message.now) (front_of builder.old) (ends_of all (links_on (domains_in scalars.now) (graph_of message.now) (index ∷ [])))) }
-    ensures within { OnOk result (ends_within (domains_in scalars.now) (graph_of message.now) (front_of builder.old) (ends_of all (links_on (domains_in scalars.now) (graph_of message.now) (index ∷ []))) ≡ true) }
-    ensures limit { IfErr result (λ e. e ≡ FormFault.PathLimit → ends_within (domains_in scalars.now) (graph_of message.now) (front_of builder.old) (ends_of all (links_on (domains_in scalars.now) (graph_of message.now) (index ∷ []))) ≡ false) }
+    ensures gone { OnOk result (front_of builder.new ≡ after_ends message.now.domains message.now.graph (front_of builder.old) (ends_of all (links_on message.now.domains message.now.graph (index ∷ [])))) }
+    ensures within { OnOk result (ends_within message.now.domains message.now.graph (front_of builder.old) (ends_of all (links_on message.now.domains message.now.graph (index ∷ []))) ≡ true) }
+    ensures limit { IfErr result (λ e. e ≡ FormFault.PathLimit → ends_within message.now.domains message.now.graph (front_of builder.old) (ends_of all (links_on message.now.domains message.now.graph (index ∷ []))) ≡ false) }
 {
-    match link_at(message, index) {
-        Some(link) => gather_end(alloc, link, all, message, scalars, builder),
+    match message.link(index) {
+        Some(link) => gather_end(alloc, link, all, message, builder),
         None => Ok(()),
     }
 }
@@ -197,19 +175,16 @@ pub fn gather_ends(
     alloc: Global,
     path: &[u16],
     all: bool,
-    message: &Message,
-    scalars: &[Scalar],
+    message: &Elaborated<'_>,
     builder: &mut Builder,
 ) -> Result<(), FormFault>
-    requires formable { AreFormable (limits_in scalars.now message.now) (graph_of message.now) }
-    requires narrow { AreNarrow (limits_in scalars.now message.now) (graph_of message.now) }
     requires room { builder.old.work.next ≤ 190 }
-    ensures gone { OnOk result (front_of builder.new ≡ after_ends (domains_in scalars.now) (graph_of message.now) (front_of builder.old) (ends_of all (links_on (domains_in scalars.now) (graph_of message.now) path.now))) }
-    ensures within { OnOk result (ends_within (domains_in scalars.now) (graph_of message.now) (front_of builder.old) (ends_of all (links_on (domains_in scalars.now) (graph_of message.now) path.now)) ≡ true) }
-    ensures limit { IfErr result (λ e. e ≡ FormFault.PathLimit → ends_within (domains_in scalars.now) (graph_of message.now) (front_of builder.old) (ends_of all (links_on (domains_in scalars.now) (graph_of message.now) path.now)) ≡ false) }
+    ensures gone { OnOk result (front_of builder.new ≡ after_ends message.now.domains message.now.graph (front_of builder.old) (ends_of all (links_on message.now.domains message.now.graph path.now))) }
+    ensures within { OnOk result (ends_within message.now.domains message.now.graph (front_of builder.old) (ends_of all (links_on message.now.domains message.now.graph path.now)) ≡ true) }
+    ensures limit { IfErr result (λ e. e ≡ FormFault.PathLimit → ends_within message.now.domains message.now.graph (front_of builder.old) (ends_of all (links_on message.now.domains message.now.graph path.now)) ≡ false) }
 {
     for index in path {
-        gather_end_at(alloc, *index, all, message, scalars, builder)?;
+        gather_end_at(alloc, *index, all, message, builder)?;
     }
     Ok(())
 }

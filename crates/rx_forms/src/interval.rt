@@ -1,35 +1,16 @@
-// Intervals and values of narrow expressions, and the scalar types of fields.
+//! Intervals and values of narrow expressions.
 
-ghost use Rattle.std.specs.Prelude.{◌≡◌, ℕ, ◌^◌, ◌<◌, ◌-◌, pos, MatchOption, Some, None};
+ghost use Rattle.std.specs.Prelude.{◌≡◌, ℕ, ◌^◌, ◌<◌, ◌-◌, pos, Some, None};
 ghost use Rattle.rx_types.specs.Domain.{domain_of, greatest_of, greatest, numbers_of};
 ghost use Rattle.rx_types.specs.Narrow.{interval_of, interval_by, IsNarrow, IsShort, IsDivisorIn};
 ghost use Rattle.rx_types.specs.Static.{is_arithmetic, is_static, static_value};
 ghost use Rattle.rx_types.specs.Tree.{tree_of};
-ghost use Rattle.rx_graph.specs.Graph.{graph_of, type_of};
-ghost use Rattle.rx_forms.specs.Code.{domains_in, limits_in};
+ghost use Rattle.rx_forms.specs.Code.{limits};
 
-use rx_graph::{Message, Scalar};
+use rx_graph::Elaborated;
 use rx_types::{
-    Env, Expr, FieldId, FieldType, Interval, Literal, Operator, ScalarType, bounds, negation, value,
+    Env, Expr, FieldId, Interval, Literal, Operator, ScalarType, bounds, negation, value,
 };
-
-/// The scalar type of a field, if it is a scalar.
-pub fn scalar_type<'a>(
-    message: &Message,
-    scalars: &'a [Scalar],
-    field: FieldId,
-) -> Option<&'a ScalarType>
-    ensures { MatchOption result (type_of (domains_in scalars.now) (graph_of message.now) field ≡ None) (λ t. type_of (domains_in scalars.now) (graph_of message.now) field ≡ Some (domain_of t.now)) }
-{
-    let field = message.fields.get(field as usize)?;
-    match field.kind {
-        FieldType::Scalar(id) => match scalars.get(id as usize) {
-            Some(scalar) => Some(&scalar.kind),
-            None => None,
-        },
-        _ => None,
-    }
-}
 
 /// Whether an expression is made of numbers and arithmetic alone.
 pub fn is_static(expr: &Expr) -> bool
@@ -45,6 +26,7 @@ pub fn is_static(expr: &Expr) -> bool
     }
 }
 
+// Whether an operator adds, subtracts, multiplies or divides.
 fn is_arithmetic(operator: Operator) -> bool
     ensures { result ≡ is_arithmetic operator }
 {
@@ -103,20 +85,20 @@ fn all_ones(size: u8) -> i128
 }
 
 // The greatest number of a field, 0 where it is no scalar.
-fn limit_of(message: &Message, scalars: &[Scalar], field: FieldId) -> i128
-    requires small { limits_in scalars.now message.now field < 2 ^ 100 }
-    ensures { result ≡ pos (limits_in scalars.now message.now field) }
+fn limit_of(message: &Elaborated<'_>, field: FieldId) -> i128
+    requires small { limits message.now field < 2 ^ 100 }
+    ensures { result ≡ pos (limits message.now field) }
 {
-    match scalar_type(message, scalars, field) {
+    match message.scalar(field) {
         Some(scalar) => greatest(scalar),
         None => 0,
     }
 }
 
 /// Between which numbers a narrow expression lies.
-pub fn interval(expr: &Expr, message: &Message, scalars: &[Scalar]) -> Interval
-    requires narrow { IsNarrow (limits_in scalars.now message.now) (tree_of expr.now) }
-    ensures value { result ≡ interval_of (limits_in scalars.now message.now) (tree_of expr.now) }
+pub fn interval(expr: &Expr, message: &Elaborated<'_>) -> Interval
+    requires narrow { IsNarrow (limits message.now) (tree_of expr.now) }
+    ensures value { result ≡ interval_of (limits message.now) (tree_of expr.now) }
     ensures short { IsShort result }
 {
     match expr {
@@ -126,7 +108,7 @@ pub fn interval(expr: &Expr, message: &Message, scalars: &[Scalar]) -> Interval
         },
         Expr::Field(field) => Interval {
             low: 0,
-            high: limit_of(message, scalars, *field),
+            high: limit_of(message, *field),
         },
         Expr::First(_) | Expr::Size(_) | Expr::Total => Interval {
             low: 0,
@@ -137,12 +119,12 @@ pub fn interval(expr: &Expr, message: &Message, scalars: &[Scalar]) -> Interval
             high: 1 << 27,
         },
         Expr::Neg(part) => {
-            let inner = interval(part, message, scalars);
+            let inner = interval(part, message);
             negation(inner.low, inner.high)
         }
         Expr::Binary(operator, left, right) => {
-            let left = interval(left, message, scalars);
-            let right = interval(right, message, scalars);
+            let left = interval(left, message);
+            let right = interval(right, message);
             operated(*operator, left, right)
         }
         Expr::Truth(true) => Interval { low: 1, high: 1 },

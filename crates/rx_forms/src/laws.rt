@@ -1,13 +1,10 @@
-// What holds of forms, each as the clause of a function that does nothing.
+//! What holds of forms, each as the clause of a function that does nothing.
 
-ghost use Rattle.std.specs.Prelude.{◌≡◌, Some, slice_get};
-ghost use Rattle.rx_types.specs.Domain.{Domain, boolean};
-ghost use Rattle.rx_graph.specs.Elaborated.{IsElaborated};
-ghost use Rattle.rx_graph.specs.Graph.{domains_of, graph_of, limit_of};
 ghost use Rattle.rx_forms.specs.Steps.{AreFormable, AreNarrow};
 ghost use Rattle.rx_forms.specs.Laws.{SumsHaveValues, FactsHoldWhereTrue, RowsLeaveNoChoice, RowsHoldOfQuotients, QuotientsSolve, RowsMakePartial, PartialMakesRows, NumbersPlaceFields, FormsHaveValues, DivisionRowsHold, RowsLeaveOnePoint};
+ghost use Rattle.rx_forms.specs.Code.{limits};
 
-use rx_graph::{Message, Spec};
+use rx_graph::Elaborated;
 
 /// With the values of its division variables the sum of an expression has the expression's value.
 pub fn sums_have_values()
@@ -36,56 +33,56 @@ pub fn quotients_solve_divisions()
 {}
 
 /// The expressions of the links of an elaborated message have sums and facts, and are narrow.
-pub fn links_have_forms(spec: &Spec, message: &Message)
-    requires elaborated { IsElaborated (domains_of spec.now) (graph_of message.now) }
-    requires boolean { (d : Domain) → slice_get (domains_of spec.now) 0 ≡ Some d → d ≡ boolean }
-    ensures formable { AreFormable (limit_of (domains_of spec.now) (graph_of message.now)) (graph_of message.now) }
-    ensures narrow { AreNarrow (limit_of (domains_of spec.now) (graph_of message.now)) (graph_of message.now) }
-{}
+pub fn links_have_forms(message: &Elaborated<'_>)
+    ensures formable { AreFormable (limits message.now) message.now.graph }
+    ensures narrow { AreNarrow (limits message.now) message.now.graph }
+{
+    message.is_known();
+}
 
 /// Where the rows and facts of the links of a path hold at a point, the path is partial for the point's numbers.
-pub fn rows_make_paths_partial(spec: &Spec, message: &Message)
-    requires elaborated { IsElaborated (domains_of spec.now) (graph_of message.now) }
-    requires formable { AreFormable (limit_of (domains_of spec.now) (graph_of message.now)) (graph_of message.now) }
-    requires narrow { AreNarrow (limit_of (domains_of spec.now) (graph_of message.now)) (graph_of message.now) }
-    ensures { RowsMakePartial (domains_of spec.now) (graph_of message.now) }
-{}
+pub fn rows_make_paths_partial(message: &Elaborated<'_>)
+    ensures { RowsMakePartial message.now.domains message.now.graph }
+{
+    message.is_known();
+    links_have_forms(message);
+}
 
 /// Where a path is partial, the rows and facts of its links hold at the point of its numbers and quotients.
-pub fn partial_paths_make_rows(spec: &Spec, message: &Message)
-    requires elaborated { IsElaborated (domains_of spec.now) (graph_of message.now) }
-    requires formable { AreFormable (limit_of (domains_of spec.now) (graph_of message.now)) (graph_of message.now) }
-    requires narrow { AreNarrow (limit_of (domains_of spec.now) (graph_of message.now)) (graph_of message.now) }
-    ensures { PartialMakesRows (domains_of spec.now) (graph_of message.now) }
-{}
+pub fn partial_paths_make_rows(message: &Elaborated<'_>)
+    ensures { PartialMakesRows message.now.domains message.now.graph }
+{
+    message.is_known();
+    links_have_forms(message);
+}
 
 /// A length and a number of its type for each scalar of a path place the fields of the path.
-pub fn numbers_place_fields(spec: &Spec, message: &Message)
-    ensures { NumbersPlaceFields (domains_of spec.now) (graph_of message.now) }
+pub fn numbers_place_fields(message: &Elaborated<'_>)
+    ensures { NumbersPlaceFields message.now.domains message.now.graph }
 {}
 
 /// At one point, of the length of a message, the numbers of its scalars and the quotients, the forms of a path have the values of
 /// the fields that its links place, and the conditions hold exactly where they are true. That is so for every length and for all
 /// numbers of the scalars' types, whether the path is partial or not.
-pub fn forms_have_values(spec: &Spec, message: &Message)
-    requires elaborated { IsElaborated (domains_of spec.now) (graph_of message.now) }
-    requires formable { AreFormable (limit_of (domains_of spec.now) (graph_of message.now)) (graph_of message.now) }
-    requires narrow { AreNarrow (limit_of (domains_of spec.now) (graph_of message.now)) (graph_of message.now) }
-    ensures { FormsHaveValues (domains_of spec.now) (graph_of message.now) }
-{}
+pub fn forms_have_values(message: &Elaborated<'_>)
+    ensures { FormsHaveValues message.now.domains message.now.graph }
+{
+    message.is_known();
+    links_have_forms(message);
+}
 
 /// At that point the rows of a link's divisions hold wherever the path is partial up to the link's source.
-pub fn division_rows_hold(spec: &Spec, message: &Message)
-    requires elaborated { IsElaborated (domains_of spec.now) (graph_of message.now) }
-    requires formable { AreFormable (limit_of (domains_of spec.now) (graph_of message.now)) (graph_of message.now) }
-    requires narrow { AreNarrow (limit_of (domains_of spec.now) (graph_of message.now)) (graph_of message.now) }
-    ensures { DivisionRowsHold (domains_of spec.now) (graph_of message.now) }
-{}
+pub fn division_rows_hold(message: &Elaborated<'_>)
+    ensures { DivisionRowsHold message.now.domains message.now.graph }
+{
+    message.is_known();
+    links_have_forms(message);
+}
 
 /// And they leave the quotients no choice: no other point with that length and these numbers meets all rows of the divisions.
-pub fn rows_leave_one_point(spec: &Spec, message: &Message)
-    requires elaborated { IsElaborated (domains_of spec.now) (graph_of message.now) }
-    requires formable { AreFormable (limit_of (domains_of spec.now) (graph_of message.now)) (graph_of message.now) }
-    requires narrow { AreNarrow (limit_of (domains_of spec.now) (graph_of message.now)) (graph_of message.now) }
-    ensures { RowsLeaveOnePoint (domains_of spec.now) (graph_of message.now) }
-{}
+pub fn rows_leave_one_point(message: &Elaborated<'_>)
+    ensures { RowsLeaveOnePoint message.now.domains message.now.graph }
+{
+    message.is_known();
+    links_have_forms(message);
+}

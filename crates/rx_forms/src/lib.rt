@@ -4,6 +4,7 @@
 mod arithmetic;
 mod aspect;
 mod builder;
+mod checkable;
 mod choices;
 mod condition;
 mod division;
@@ -23,6 +24,7 @@ mod work;
 pub use arithmetic::{constant, copy, minus, term};
 pub use aspect::{first_form, size_form};
 pub use builder::{Builder, add_condition, add_link, start};
+pub use checkable::{Checkable, CheckableSpec};
 pub use condition::condition_form;
 pub use division::divide;
 pub use entry::{size_of, variable_form, variable_of};
@@ -30,7 +32,7 @@ pub use fault::{FormFault, NoMemory};
 pub use field::FieldForms;
 pub use forms::{Forms, finish, forms_of, forms_with};
 pub use gather::{gather_fields, scalars_along};
-pub use interval::{interval as interval_of, scalar_type};
+pub use interval::interval as interval_of;
 pub use laws::{
     division_rows_hold, facts_hold_where_conditions_do, forms_have_values, links_have_forms,
     numbers_place_fields, partial_paths_make_rows, quotients_solve_divisions,

@@ -1,4 +1,4 @@
-// The path limit of one sum.
+//! The path limit of one sum.
 
 ghost use Rattle.std.specs.Prelude.{◌≡◌, ◌^◌, OnOk, IfErr, true, false, nat_lt, unsigned_abs};
 ghost use Rattle.std.specs.List.{list_all};

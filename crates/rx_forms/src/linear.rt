@@ -1,4 +1,4 @@
-// Linear forms, and facts that they make.
+//! Linear forms, and facts that they make.
 use sqlite_items::Items;
 
 /// The sum of coefficient times variable, plus a constant.

@@ -1,4 +1,4 @@
-// The sums of expressions that are numbers.
+//! The sums of expressions that are numbers.
 
 ghost use Rattle.std.specs.Prelude.{◌≡◌, ℕ, ◌+◌, ◌≤◌, ◌++◌, pos, ◌<ℤ◌, ◌&&◌, nat_le, true, false, IfOk, IfErr, OnOk};
 ghost use Rattle.rx_types.specs.Tree.{tree_of};
@@ -8,7 +8,7 @@ ghost use Rattle.rx_forms.specs.Normal.{bits, formed_of, IsNumeric};
 ghost use Rattle.rx_forms.specs.Divisions.{division_rows};
 ghost use Rattle.rx_forms.specs.Limits.{has_words, all_kept, divided, is_within};
 ghost use Rattle.rx_forms.specs.Worked.{IsLeaf, HasSum, sum_by, divided_by};
-ghost use Rattle.rx_forms.specs.Code.{formed_all, limits_in};
+ghost use Rattle.rx_forms.specs.Code.{formed_all, limits};
 
 use crate::arithmetic::{constant, minus, plus, scaled, term};
 use crate::division::divide;
@@ -18,7 +18,7 @@ use crate::field::FieldForms;
 use crate::interval::{interval, is_static, static_number};
 use crate::linear::Linear;
 use crate::work::Work;
-use rx_graph::{Message, Scalar};
+use rx_graph::Elaborated;
 use rx_types::{Expr, FieldId, Interval, Operator};
 use std::alloc::{AllocError, Global};
 
@@ -155,41 +155,40 @@ fn divided(
 pub fn number_form(
     alloc: Global,
     expr: &Expr,
-    message: &Message,
-    scalars: &[Scalar],
+    message: &Elaborated<'_>,
     fields: &[FieldForms],
     work: &mut Work,
 ) -> Result<Linear, FormFault>
     requires numeric { IsNumeric (tree_of expr.now) }
-    requires narrow { IsNarrow (limits_in scalars.now message.now) (tree_of expr.now) }
+    requires narrow { IsNarrow (limits message.now) (tree_of expr.now) }
     requires room { work.old.next ≤ 190 }
-    ensures sum { IfOk result (λ f. HasSum (limits_in scalars.now message.now) (formed_all fields.now) (tree_of expr.now) work.old work.new f) }
+    ensures sum { IfOk result (λ f. HasSum (limits message.now) (formed_all fields.now) (tree_of expr.now) work.old work.new f) }
     ensures limit { IfErr result (λ e. e ≡ FormFault.PathLimit → is_within (formed_all fields.now) work.old.next (tree_of expr.now) ≡ false) }
 {
     match expr {
         Expr::Neg(part) => {
-            let form = number_form(alloc, part, message, scalars, fields, work)?;
+            let form = number_form(alloc, part, message, fields, work)?;
             scaled(alloc, -1, &form)
         }
         Expr::Binary(operator, left, right) => match operator {
             Operator::Mul => {
                 if is_static(left) {
-                    let form = number_form(alloc, right, message, scalars, fields, work)?;
+                    let form = number_form(alloc, right, message, fields, work)?;
                     scaled(alloc, static_number(left), &form)
                 } else {
-                    let form = number_form(alloc, left, message, scalars, fields, work)?;
+                    let form = number_form(alloc, left, message, fields, work)?;
                     scaled(alloc, static_number(right), &form)
                 }
             }
             Operator::Div | Operator::Mod => {
-                let form = number_form(alloc, left, message, scalars, fields, work)?;
+                let form = number_form(alloc, left, message, fields, work)?;
                 let divisor = static_number(right);
-                let interval = interval(left, message, scalars);
+                let interval = interval(left, message);
                 divided(alloc, *operator, &form, &divisor, &interval, work)
             }
             _ => {
-                let left = number_form(alloc, left, message, scalars, fields, work)?;
-                let right = number_form(alloc, right, message, scalars, fields, work)?;
+                let left = number_form(alloc, left, message, fields, work)?;
+                let right = number_form(alloc, right, message, fields, work)?;
                 joined(alloc, *operator, &left, &right)
             }
         },

@@ -1,4 +1,4 @@
-// Divisions along a path: the number of the next variable, and the rows so far.
+//! Divisions along a path: the number of the next variable, and the rows so far.
 use crate::linear::Linear;
 use sqlite_items::Items;
 

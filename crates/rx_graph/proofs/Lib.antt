@@ -2,14 +2,15 @@ pub mod Bounded
 pub mod Box
 pub mod Covered
 pub mod Distinct
+pub mod Exclusions
 pub mod Facts
 pub mod Lengths
 pub mod Listed
+pub mod Memory
 pub mod OneFit
 pub mod OneList
 pub mod OneReason
 pub mod Ranks
-pub mod Sound
 pub mod Stops
 pub mod Unique
 pub mod Ways

@@ -18,11 +18,11 @@ use Rattle.rx_graph.specs.Cycles.{IsLink, IsPath, HasNoCycle, Precedes, ArePaths
 use Rattle.rx_graph.specs.Onward.{onward, by_each}
 use Rattle.rx_graph.proofs.Ways.{onward_here, onward_none, onward_suc, behind_none, length-arrows}
 use Rattle.rx_graph.proofs.Distinct.{members_below, not_true, nothing}
-use Rattle.rx_graph.proofs.Sound.{is_itself}
+use Rattle.rx_graph.proofs.Exclusions.{is_itself}
 
 -- ---- nodes and lists
 
-same_node : (a b : Node) → is_node a b ≡ true → a ≡ b
+pub same_node : (a b : Node) → is_node a b ≡ true → a ≡ b
 same_node Start Start h = refl
 same_node Start (At g) h = cc
 same_node Start Null h = cc

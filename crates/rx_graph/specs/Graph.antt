@@ -1,9 +1,11 @@
 -- Messages without their places in memory.
 --   Arrow, arrow_of         a link
 --   Graph, graph_of         a message
---   NamedDomain             a scalar type with its names; domains_of: the scalar types of a specification
+--   NamedDomain             a scalar type with its names
+--   domains_in, domains_of  the scalar types of a list, and of a specification
 --   Refined, refined_of     a refinement
 --   Specified, spec_of      a specification
+--   field_at node           the field of a node, if it is one
 --   type_of domains m f     the scalar type of field f, if it is a scalar
 --   limit_of, kind_of       the greatest number of a field, and its kind in expressions
 use Rattle.std.specs.Prelude.{◌≡◌, ℕ, zero, suc, Bool, List, [], ◌∷◌, Option, Some, None, map, slice_get}
@@ -14,6 +16,7 @@ use Rattle.rx_types.specs.declared.scalar.FieldType.TheVariants.{Scalar, Opaque,
 use Rattle.rx_types.specs.Domain.{Domain, Integer, Enumeration, domain_of, greatest_of}
 use Rattle.rx_types.specs.Tree.{Tree, tree_of, tree_if_any}
 use Rattle.rx_graph.specs.declared.message.Node.{Node}
+use Rattle.rx_graph.specs.declared.message.Node.TheVariants.{Start, At, Null}
 use Rattle.rx_graph.specs.declared.message.Field.{Field}
 use Rattle.rx_graph.specs.declared.message.Link.{Link}
 use Rattle.rx_graph.specs.declared.message.Message.{Message}
@@ -74,10 +77,19 @@ abbrev pub spec_of : Spec → Specified
 spec_of s = record { scalars = map named_domain_of s.scalars.items; messages = map graph_of s.messages.items; refinements = map refined_of s.refinements.items }
 
 -- the scalar types, each at the place that its id says
+abbrev pub domains_in : List code.Scalar → List Domain
+domains_in scalars = map (λ x. domain_of x.kind) scalars
+
 abbrev pub domains_of : Spec → List Domain
-domains_of s = map (λ x. domain_of x.kind) s.scalars.items
+domains_of s = domains_in s.scalars.items
 
 -- ---- fields
+
+-- the field of a node, if it is one
+abbrev pub field_at : Node → Option ℕ
+field_at Start = None
+field_at (At f) = Some f
+field_at Null = None
 
 abbrev pub scalar_of : List Domain → Option Field → Option Domain
 scalar_of domains None = None

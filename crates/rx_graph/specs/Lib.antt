@@ -1,4 +1,5 @@
 pub mod Checks
+pub mod Codes
 pub mod Cycles
 pub mod Elaborated
 pub mod Fits
@@ -7,3 +8,4 @@ pub mod Laws
 pub mod Onward
 pub mod Paths
 pub mod Stuck
+pub mod Typed

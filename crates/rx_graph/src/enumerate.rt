@@ -3,7 +3,6 @@
 ghost use Rattle.std.specs.Prelude.{◌≡◌, ℕ, ◌<◌, ◌≤◌, ◌^◌, [], ◌∷◌, ◌++◌, map, length, OnOk, IfOk, IfErr};
 ghost use Rattle.rx_graph.specs.Graph.{arrows, graph_of};
 ghost use Rattle.rx_graph.specs.Cycles.{HasNoCycle, ArePathsTo, AreWholePaths, HasMorePathsTo};
-ghost use Rattle.rx_graph.specs.Checks.{is_node};
 ghost use Rattle.rx_graph.specs.Onward.{onward};
 
 use crate::fault::PathFault;
@@ -64,7 +63,7 @@ fn extend(
     ensures path { OnOk result (path.new.items ≡ path.old.items) }
     ensures many { IfErr result (λ e. e ≡ PathFault.TooManyPaths → 4096 < length (paths.old.items ++ map (λ p. path.old.items ++ p) (onward (arrows links.now) more end at))) }
 {
-    if is_same(at, end) {
+    if at.is(end) {
         return add(alloc, path.as_slice(), paths);
     }
     if more == 0 {
@@ -72,7 +71,7 @@ fn extend(
     }
     for index in 0..links.len() {
         let link = &links[index];
-        if is_same(link.source, at) {
+        if link.source.is(at) {
             let depth = path.len();
             path.push(index as u16)?;
             extend(alloc, links, more - 1, end, link.target, path, paths)?;
@@ -95,16 +94,4 @@ fn add(alloc: Global, path: &[u16], paths: &mut Vec<Path>) -> Result<(), PathFau
     let path = Path::make(alloc, path)?;
     paths.push(path)?;
     Ok(())
-}
-
-// Whether two nodes are one.
-fn is_same(left: Node, right: Node) -> bool
-    ensures { result ≡ is_node left right }
-{
-    match (left, right) {
-        (Node::Start, Node::Start) => true,
-        (Node::At(one), Node::At(other)) => one == other,
-        (Node::Null, Node::Null) => true,
-        _ => false,
-    }
 }

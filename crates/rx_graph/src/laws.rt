@@ -1,12 +1,13 @@
-// What holds of every message, each as the clause of a function that does nothing.
+//! What holds of every message, each as the clause of a function that does nothing.
 
 ghost use Rattle.rx_graph.specs.Graph.{domains_of, graph_of};
 ghost use Rattle.rx_graph.specs.Paths.{Exclusive, HasOnePath};
-ghost use Rattle.rx_graph.specs.Elaborated.{IsElaborated, IsSound};
+ghost use Rattle.rx_graph.specs.Elaborated.{IsElaborated};
 ghost use Rattle.rx_graph.specs.Fits.{HasOneFit};
 ghost use Rattle.rx_graph.specs.Laws.{ReasonMakesLongest, NoneWhereStuck, HasOneList, HasOneReason, SizesMakeLength, FitsHaveLength, FieldsAreDistinct, FieldsAreBounded};
 
 use crate::message::Message;
+use crate::sound::Sound;
 use crate::spec::Spec;
 
 /// The paths to a node stand in one list: all of them, alone, in order and each once.
@@ -40,17 +41,19 @@ pub fn longest_path_has_one_reason(spec: &Spec, message: &Message)
 {}
 
 /// The checks of a Sound message leave no two links of a node that are taken together.
-pub fn sound_is_exclusive(spec: &Spec, message: &Message)
-    requires { IsSound (domains_of spec.now) (graph_of message.now) }
-    ensures { Exclusive (domains_of spec.now) (graph_of message.now) }
-{}
+pub fn sound_is_exclusive(message: &Sound<'_>)
+    ensures { Exclusive message.now.domains message.now.graph }
+{
+    message.is_sound();
+}
 
 /// The sizes of the fields that are no overlays add up to the length of a Sound message, and so do those of a valuation.
-pub fn sizes_make_the_length(spec: &Spec, message: &Message)
-    requires { IsSound (domains_of spec.now) (graph_of message.now) }
-    ensures fields { SizesMakeLength (domains_of spec.now) (graph_of message.now) }
-    ensures valuation { FitsHaveLength (domains_of spec.now) (graph_of message.now) }
-{}
+pub fn sizes_make_the_length(message: &Sound<'_>)
+    ensures fields { SizesMakeLength message.now.domains message.now.graph }
+    ensures valuation { FitsHaveLength message.now.domains message.now.graph }
+{
+    message.is_sound();
+}
 
 /// No field stands twice on a partial path.
 pub fn fields_of_a_path_are_distinct(spec: &Spec, message: &Message)

@@ -2,7 +2,8 @@
 
 ghost use Rattle.std.specs.Prelude.{◌≡◌, IfOk, IsTrue, ◌↔◌};
 ghost use Rattle.rx_types.specs.Tree.{tree_if_any};
-ghost use Rattle.rx_graph.specs.Graph.{arrow_of, arrows, graph_of};
+ghost use Rattle.rx_graph.specs.Checks.{is_node};
+ghost use Rattle.rx_graph.specs.Graph.{arrow_of, arrows, field_at, graph_of};
 
 use crate::fault::NoMemory;
 use rx_syntax::Place;
@@ -46,6 +47,31 @@ pub struct Message {
     pub links: Vec<Link>,
     /// Whether the bytes of its numbers stand in reverse.
     pub low_order: bool,
+}
+
+impl Node {
+    /// Whether it is the other node.
+    pub fn is(self, other: Node) -> bool
+        ensures { result ≡ is_node self other }
+    {
+        match (self, other) {
+            (Node::Start, Node::Start) => true,
+            (Node::At(one), Node::At(other)) => one == other,
+            (Node::Null, Node::Null) => true,
+            _ => false,
+        }
+    }
+
+    /// The field, if it is one.
+    pub fn field(self) -> Option<FieldId>
+        ensures { result ≡ field_at self }
+    {
+        match self {
+            Node::Start => None,
+            Node::At(field) => Some(field),
+            Node::Null => None,
+        }
+    }
 }
 
 impl Field {

@@ -1,11 +1,12 @@
-// Specifications: the scalar types, messages and refinements of packages.
+//! Specifications: the scalar types, messages and refinements of packages.
 
-ghost use Rattle.std.specs.Prelude.{◌≡◌, IfOk};
-ghost use Rattle.rx_graph.specs.Graph.{named_domain_of};
+ghost use Rattle.std.specs.Prelude.{◌≡◌, IfOk, option_map};
+ghost use Rattle.rx_types.specs.Domain.{domain_of};
+ghost use Rattle.rx_graph.specs.Graph.{domains_in, graph_of, named_domain_of, type_of};
 
 use crate::fault::NoMemory;
 use crate::message::Message;
-use rx_types::{Expr, FieldId, Name, ScalarType};
+use rx_types::{Expr, FieldId, FieldType, Name, ScalarType};
 use std::alloc::Global;
 
 /// A message's place in its specification.
@@ -49,5 +50,23 @@ impl Scalar {
             name,
             kind,
         })
+    }
+}
+
+/// The scalar type of a message's field, if it is a scalar.
+pub fn scalar_of<'s>(
+    scalars: &'s [Scalar],
+    message: &Message,
+    field: FieldId,
+) -> Option<&'s ScalarType>
+    ensures { option_map (λ t. domain_of t.now) result ≡ type_of (domains_in scalars.entry.now) (graph_of message.now) field }
+{
+    match message.fields.get(field as usize)?.kind {
+        FieldType::Scalar(id) => {
+            let scalar = scalars.get(id as usize)?;
+            Some(&scalar.kind)
+        }
+        FieldType::Opaque => None,
+        FieldType::Sequence(_) => None,
     }
 }

@@ -25,7 +25,8 @@ use Rattle.rx_judge.specs.Kinds.{is_linear}
 use Rattle.rx_judge.specs.Low.{is_low, are_low}
 use Rattle.rx_judge.specs.Judged.{about_by, lowness}
 use Rattle.rx_judge.specs.Form.{scaled_number}
-use Rattle.rx_judge.specs.declared.fault.Refusal.{Refusal}
+use Rattle.rx_syntax.specs.declared.rule.Refusal.{Refusal}
+use Rattle.rx_syntax.specs.declared.rule.Rule.TheVariants as rule
 use Rattle.rx_judge.proofs.Lows.{both_true}
 
 no_limit : ℕ → ℕ
@@ -133,5 +134,5 @@ remainder_made l r fl fr f x y z u v n e t q =
 pub low_stands : (owner : List ℕ) (p : Place) (f : LinearForm) (x : Tree) (b : Bool) → HasForm f x → b ≡ (list_all (λ (t : Term). is_low t.coefficient) f.terms.items && list_all is_low f.quotients.items) → b ≡ true → lowness owner p x ≡ Ok tt
 low_stands owner p f x b h t e = let k : are_low x ≡ true = sym (low_same f x h) ∙ sym t ∙ e in rw k refl
 
-pub low_refused : (owner : List ℕ) (p : Place) (f : LinearForm) (x : Tree) (b : Bool) (r : Refusal) → HasForm f x → b ≡ (list_all (λ (t : Term). is_low t.coefficient) f.terms.items && list_all is_low f.quotients.items) → b ≡ false → r ≡ record { number = 13; place = p; name = owner } → lowness owner p x ≡ Err r
+pub low_refused : (owner : List ℕ) (p : Place) (f : LinearForm) (x : Tree) (b : Bool) (r : Refusal) → HasForm f x → b ≡ (list_all (λ (t : Term). is_low t.coefficient) f.terms.items && list_all is_low f.quotients.items) → b ≡ false → r ≡ record { rule = rule.TooWide; place = p; word = Some owner } → lowness owner p x ≡ Err r
 low_refused owner p f x b r h t e g = let k : are_low x ≡ false = sym (low_same f x h) ∙ sym t ∙ e in rw (k, g) refl

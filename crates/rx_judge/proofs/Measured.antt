@@ -21,7 +21,8 @@ use Rattle.rx_judge.specs.Meaning.{Meaning, ◌>>=◌, each_from}
 use Rattle.rx_judge.specs.Scalar.{spelled, static_value, is_size, unsigned, is_range, range, number_of_literal, numbers_of, size_of_aspects, first_some, always_valid, given, number_at, literal_at, is_among, is_distinct, is_some_list, are_numbers, are_literals, enumeration, definition, IsMeasured}
 use Rattle.rx_judge.proofs.Lows.{both_true}
 use Rattle.rx_judge.proofs.Meanings.{err_differs, ok_same, bind_ok, if_ok}
-use Rattle.rx_judge.specs.declared.fault.Refusal.{Refusal}
+use Rattle.rx_syntax.specs.declared.rule.Refusal.{Refusal}
+use Rattle.rx_syntax.specs.declared.rule.Rule.TheVariants as rule
 
 size_facts : (z : ℤ) → is_size z ≡ true → (0 < nat_abs z) × (nat_abs z < 64)
 size_facts (pos k) h = (grind (arith, ints, nat_tests), grind (arith, ints, nat_tests))
@@ -32,8 +33,8 @@ below_pow k = omega (arith, pow_pos k)
 
 unsigned_measured : (name : Named) (e : ExprTree) (d : Domain) → unsigned name e ≡ Ok d → IsMeasured d
 unsigned_measured name e d h =
-    let b = bind_ok (static_value name.word e) (λ n. if is_size n then Ok (Integer 0 (2 ^ nat_abs n - 1) (nat_abs n)) else Err (record { number = 20; place = name.place; name = name.word })) d h in
-    let q = if_ok (is_size b.0) (Integer 0 (2 ^ nat_abs b.0 - 1) (nat_abs b.0)) d (record { number = 20; place = name.place; name = name.word }) b.2 in
+    let b = bind_ok (static_value name.word e) (λ n. if is_size n then Ok (Integer 0 (2 ^ nat_abs n - 1) (nat_abs n)) else Err (record { rule = rule.BadRange; place = name.place; word = Some name.word })) d h in
+    let q = if_ok (is_size b.0) (Integer 0 (2 ^ nat_abs b.0 - 1) (nat_abs b.0)) d (record { rule = rule.BadRange; place = name.place; word = Some name.word }) b.2 in
     let s = size_facts b.0 q.0 in
     subst (λ w. IsMeasured w) q.1 (s.0, s.1, omega arith, below_pow (nat_abs b.0))
 
@@ -44,7 +45,7 @@ range_facts (negsuc a) b n h k l = absurd (cc)
 
 range_measured : (name : Named) (x y z : ExprTree) (d : Domain) → range name x y z ≡ Ok d → IsMeasured d
 range_measured name x y z d h =
-    let r : Refusal = record { number = 20; place = name.place; name = name.word } in
+    let r : Refusal = record { rule = rule.BadRange; place = name.place; word = Some name.word } in
     let f = λ (a b n : ℤ). if is_range a b n then Ok (Integer (nat_abs a) (nat_abs b) (nat_abs n)) else Err r in
     let p = bind_ok (static_value name.word x) (λ a. static_value name.word y >>= (λ b. static_value name.word z >>= (λ n. f a b n))) d h in
     let q = bind_ok (static_value name.word y) (λ b. static_value name.word z >>= (λ n. f p.0 b n)) d p.2 in
@@ -144,7 +145,7 @@ taken false m y r h = absurd (err_differs r y h)
 
 enumeration_measured : (name : Named) (ls : List LiteralTree) (xs : List EnumAspect) (d : Domain) → enumeration name ls xs ≡ Ok d → IsMeasured d
 enumeration_measured name ls xs d h =
-    let r : Refusal = record { number = 20; place = name.place; name = name.word } in
+    let r : Refusal = record { rule = rule.BadRange; place = name.place; word = Some name.word } in
     let made = λ (zs : List ℤ) (n : ℤ). (each_from (literal_at zs) 0 ls >>= (λ literals. Ok (Enumeration literals (nat_abs n) (always_valid xs)))) in
     let last = λ (zs : List ℤ) (n : ℤ). if are_literals n zs then made zs n else Err r in
     let p = bind_ok (numbers_of name.word ls) (λ zs. size_of_aspects name.word xs >>= (λ sizes. given name (first_some sizes) >>= (λ n. last zs n))) d h in

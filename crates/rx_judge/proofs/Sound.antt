@@ -38,7 +38,8 @@ use Rattle.rx_judge.specs.declared.names.Thing.{Thing}
 use Rattle.rx_judge.specs.declared.names.Thing.TheVariants as thing
 use Rattle.rx_judge.proofs.Meanings.{err_differs, ok_same, bind_ok, if_ok, unless_ok}
 use Rattle.rx_judge.proofs.Lows.{both_true, are_low_facts}
-use Rattle.rx_judge.specs.declared.fault.Refusal.{Refusal}
+use Rattle.rx_syntax.specs.declared.rule.Refusal.{Refusal}
+use Rattle.rx_syntax.specs.declared.rule.Rule.TheVariants as rule
 
 -- ---- kinds
 
@@ -156,9 +157,9 @@ narrow_ok owner p (Some y) x h = ap (λ z. Some z) (ok_same y x h)
 pub about_ok : (owner : List ℕ) (o : Option Operator) (p : Place) (l r a : About) → about_by owner o p l r ≡ Ok a → (takes o l r ≡ true) × (is_linear o l r ≡ true) × (bounds_by o l.interval r.interval ≡ Some a.interval) × (about_both o l r a.interval ≡ a)
 about_ok owner o p l r a h =
     let third : Meaning About = narrow owner p (bounds_by o l.interval r.interval) >>= (λ i. Ok (about_both o l r i)) in
-    let second : Meaning About = if not (is_linear o l r) then refused 12 p owner else third in
-    let x = unless_ok (takes o l r) second a (record { number = 10; place = p; name = owner }) h in
-    let y = unless_ok (is_linear o l r) third a (record { number = 12; place = p; name = owner }) x.1 in
+    let second : Meaning About = if not (is_linear o l r) then refused rule.NotLinear p owner else third in
+    let x = unless_ok (takes o l r) second a (record { rule = rule.WrongType; place = p; word = Some owner }) h in
+    let y = unless_ok (is_linear o l r) third a (record { rule = rule.NotLinear; place = p; word = Some owner }) x.1 in
     let z = bind_ok (narrow owner p (bounds_by o l.interval r.interval)) (λ i. Ok (about_both o l r i)) a y.1 in
     let e = ok_same (about_both o l r z.0) a z.2 in
     let i : z.0 ≡ a.interval = ap (λ (b : About). b.interval) e in
@@ -246,7 +247,7 @@ module _ (kinds : ℕ → Option Kind) (limit : ℕ → ℕ) (bound : ℕ) where
       }
 
   lowness_ok : (owner : List ℕ) (p : Place) (x : Tree) (u : Unit {0}) → lowness owner p x ≡ Ok u → are_low x ≡ true
-  lowness_ok owner p x u h = (if_ok (are_low x) tt u (record { number = 13; place = p; name = owner }) h).0
+  lowness_ok owner p x u h = (if_ok (are_low x) tt u (record { rule = rule.TooWide; place = p; word = Some owner }) h).0
 
   join_fine : (o : Option Operator) (l r : Typed) (a : About) → IsFine l → IsFine r → (takes o l.about r.about ≡ true) × (is_linear o l.about r.about ≡ true) × (bounds_by o l.about.interval r.about.interval ≡ Some a.interval) × (about_both o l.about r.about a.interval ≡ a) → are_low (tree_by o a.interval.low l.tree r.tree) ≡ true → IsFine (record { tree = tree_by o a.interval.low l.tree r.tree; about = a })
   join_fine None l r a f g k w = subst (λ (b : About). IsFine (record { tree = Number a.interval.low; about = b })) k.3 (power_fine l r a.interval k.2)
@@ -277,7 +278,7 @@ module _ (kinds : ℕ → Option Kind) (limit : ℕ → ℕ) (bound : ℕ) where
   negative_fine : (owner : List ℕ) (p : Place) (a x : Typed) → IsFine a → negative owner p a ≡ Ok x → IsFine x
   negative_fine owner p a x s h =
       let r : Typed = record { tree = Neg a.tree; about = record a.about { interval = negation a.about.interval } } in
-      let q = if_ok (is_number a.about.kind) r x (record { number = 10; place = p; name = owner }) h in
+      let q = if_ok (is_number a.about.kind) r x (record { rule = rule.WrongType; place = p; word = Some owner }) h in
       let k = number_kind a.about.kind q.0 in
       let have : IsFine r = record {
         fields = s.fields;
@@ -295,7 +296,7 @@ module _ (kinds : ℕ → Option Kind) (limit : ℕ → ℕ) (bound : ℕ) where
   opposite_fine : (owner : List ℕ) (p : Place) (a x : Typed) → IsFine a → opposite owner p a ≡ Ok x → IsFine x
   opposite_fine owner p a x s h =
       let r = plain (Not a.tree) kind.Truth truths in
-      let q = if_ok (is_truth a.about.kind) r x (record { number = 10; place = p; name = owner }) h in
+      let q = if_ok (is_truth a.about.kind) r x (record { rule = rule.WrongType; place = p; word = Some owner }) h in
       let k = truth_kind a.about.kind q.0 in
       let have : IsFine r = record {
         fields = s.fields;
@@ -354,7 +355,7 @@ module _ (kinds : ℕ → Option Kind) (limit : ℕ → ℕ) (bound : ℕ) where
   known_fits name None x p h = absurd (err_differs _ x h)
   known_fits name (Some y) x p h = subst (λ z. ThingFits z) (ok_same y x h) p
 
-  visible_fits : (b : Bool) (q name : Named) (o : Option Thing) (x : Thing) → MaybeFits o → (if b then known name o else refused_at 8 q) ≡ Ok x → ThingFits x
+  visible_fits : (b : Bool) (q name : Named) (o : Option Thing) (x : Thing) → MaybeFits o → (if b then known name o else refused_at rule.UnknownName q) ≡ Ok x → ThingFits x
   visible_fits true q name o x p h = known_fits name o x p h
   visible_fits false q name o x p h = absurd (err_differs _ x h)
 
@@ -419,11 +420,11 @@ module _ (kinds : ℕ → Option Kind) (limit : ℕ → ℕ) (bound : ℕ) where
 
   member_fine : (ns : Names) (n : NameTree) (x : Typed) → name_with_member ns n ≡ Ok x → IsFine x
   member_fine Nothing n x h = absurd (err_differs _ x h)
-  member_fine (Within s) n x h = let b = bind_ok (thing_of s n) (λ y. refused_at 10 n.name) x h in absurd (err_differs _ x b.2)
+  member_fine (Within s) n x h = let b = bind_ok (thing_of s n) (λ y. refused_at rule.WrongType n.name) x h in absurd (err_differs _ x b.2)
 
   number_fine : (owner : List ℕ) (p : Place) (z : ℤ) (x : Typed) → Rattle.rx_judge.specs.Judged.number owner p z ≡ Ok x → IsFine x
   number_fine owner p z x h =
-      let q = if_ok (is_short (single z)) (static_number z) x (record { number = 13; place = p; name = owner }) h in
+      let q = if_ok (is_short (single z)) (static_number z) x (record { rule = rule.TooWide; place = p; word = Some owner }) h in
       let have : IsFine (static_number z) = record { fields = tt; has_kind = λ e. absurd (cc); linear = tt; narrow = short_facts (single z) q.0; low = tt; interval = refl; constant = refl; static = λ c. refl; spelled = λ c. absurd (cc) } in
       subst (λ w. IsFine w) q.1 have
 
@@ -495,23 +496,23 @@ few_named (Within s) n a x h = few_either (is_message n) (attribute_of_message n
 
 few_member : (ns : Names) (n : NameTree) (x : Typed) → name_with_member ns n ≡ Ok x → operators_in x.tree ≤ 0
 few_member Nothing n x h = absurd (err_differs _ x h)
-few_member (Within s) n x h = let b = bind_ok (thing_of s n) (λ y. refused_at 10 n.name) x h in absurd (err_differs _ x b.2)
+few_member (Within s) n x h = let b = bind_ok (thing_of s n) (λ y. refused_at rule.WrongType n.name) x h in absurd (err_differs _ x b.2)
 
 one_more : (m n : ℕ) → m ≤ n → m + 1 ≤ n + 1
 one_more m n h = omega arith
 
 pub few_operators : (ns : Names) (owner : List ℕ) (e : ExprTree) (x : Typed) → judged ns owner e ≡ Ok x → operators_in x.tree ≤ operators_of e
-few_operators ns owner (tree.Number z p) x h = few_if (is_short (single z)) (static_number z) x (record { number = 13; place = p; name = owner }) 0 (omega arith) h
+few_operators ns owner (tree.Number z p) x h = few_if (is_short (single z)) (static_number z) x (record { rule = rule.TooWide; place = p; word = Some owner }) 0 (omega arith) h
 few_operators ns owner (tree.Name n) x h = few_name ns n x h
 few_operators ns owner (tree.Attribute n a) x h = few_named ns n a x h
 few_operators ns owner (tree.Member n m) x h = few_member ns n x h
 few_operators ns owner (tree.Neg' p q e) x h =
     let b = bind_ok (judged ns owner e) (negative owner p) x h in
     let r : Typed = record { tree = Neg b.0.tree; about = record b.0.about { interval = negation b.0.about.interval } } in
-    few_if (is_number b.0.about.kind) r x (record { number = 10; place = p; name = owner }) (operators_of e + 1) (one_more (operators_in b.0.tree) (operators_of e) (few_operators ns owner e b.0 b.1)) b.2
+    few_if (is_number b.0.about.kind) r x (record { rule = rule.WrongType; place = p; word = Some owner }) (operators_of e + 1) (one_more (operators_in b.0.tree) (operators_of e) (few_operators ns owner e b.0 b.1)) b.2
 few_operators ns owner (tree.Not' p q e) x h =
     let b = bind_ok (judged ns owner e) (opposite owner p) x h in
-    few_if (is_truth b.0.about.kind) (plain (Not b.0.tree) kind.Truth truths) x (record { number = 10; place = p; name = owner }) (operators_of e + 1) (one_more (operators_in b.0.tree) (operators_of e) (few_operators ns owner e b.0 b.1)) b.2
+    few_if (is_truth b.0.about.kind) (plain (Not b.0.tree) kind.Truth truths) x (record { rule = rule.WrongType; place = p; word = Some owner }) (operators_of e + 1) (one_more (operators_in b.0.tree) (operators_of e) (few_operators ns owner e b.0 b.1)) b.2
 few_operators ns owner (tree.Binary' o p q c s d) x h =
     let first = bind_ok (judged ns owner c) (λ l. judged ns owner d >>= joined owner (operator_of o) p l) x h in
     let second = bind_ok (judged ns owner d) (joined owner (operator_of o) p first.0) x first.2 in

@@ -9,6 +9,7 @@ use Rattle.rx_syntax.specs.declared.tree.Attr.{Attr}
 use Rattle.rx_syntax.specs.declared.tree.Attr.TheVariants as attr
 use Rattle.rx_syntax.specs.declared.tree.ExprTree.{ExprTree}
 use Rattle.rx_syntax.specs.declared.tree.ExprTree.TheVariants as tree
+use Rattle.rx_syntax.specs.declared.rule.Rule.TheVariants as rule
 use Rattle.rx_types.specs.declared.interval.Interval.{Interval}
 use Rattle.rx_types.specs.declared.expr.Operator as types
 use Rattle.rx_types.specs.declared.expr.Operator.TheVariants as op
@@ -48,29 +49,29 @@ static_number z = record { tree = Number z; about = record { kind = kind.Number;
 
 -- ---- names
 
--- a field as a value: a scalar, and no opaque or sequence field (10)
+-- a field as a value: a scalar, and no opaque or sequence field (WrongType)
 abbrev pub value_of_field : Named → ℕ → FieldKind → Meaning Typed
 value_of_field name f (field_kind.Scalar k greatest) = Ok (plain (Field f) k (from_to (pos 0) (pos greatest)))
-value_of_field name f field_kind.Bytes = refused_at 10 name
+value_of_field name f field_kind.Bytes = refused_at rule.WrongType name
 
 abbrev pub value_of_thing : Named → Thing → Meaning Typed
 value_of_thing name (thing.Field f) = value_of_field name f.id f.kind
 value_of_thing name (thing.Literal l) = Ok (plain (Number (pos l.number)) (kind.Of l.kind) (single (pos l.number)))
 value_of_thing name (thing.Truth b) = Ok (spelled_truth b)
 
--- the places of a field; no other name has them (10)
+-- the places of a field; no other name has them (WrongType)
 abbrev pub attribute_of_thing : Named → Attr → Thing → Meaning Typed
 attribute_of_thing name attr.First (thing.Field f) = Ok (plain (First f.id) kind.Number places_in_bits)
 attribute_of_thing name attr.Last (thing.Field f) = Ok (plain (Last f.id) kind.Number lasts_in_bits)
 attribute_of_thing name attr.Size (thing.Field f) = Ok (plain (Size f.id) kind.Number places_in_bits)
-attribute_of_thing name a x = refused_at 10 name
+attribute_of_thing name a x = refused_at rule.WrongType name
 
 -- the message begins at bit 0, and its last bit is one less than its size
 abbrev pub attribute_of_message : Named → Attr → Meaning Typed
 attribute_of_message name attr.First = Ok (plain (Number (pos 0)) kind.Number (single (pos 0)))
 attribute_of_message name attr.Last = Ok (plain (Binary op.Sub Total (Number (pos 1))) kind.Number (from_to (neg_ℤ (pos 1)) (pos (2 ^ 27 - 1))))
 attribute_of_message name attr.Size = Ok (plain Total kind.Number places_in_bits)
-attribute_of_message name a = refused_at 10 name
+attribute_of_message name a = refused_at rule.WrongType name
 
 abbrev pub is_alone : Option Named → Bool
 is_alone None = true
@@ -84,50 +85,50 @@ abbrev pub attribute : Scope → NameTree → Attr → Meaning Typed
 attribute s n a = if is_message n then attribute_of_message n.name a else (thing_of s n >>= attribute_of_thing n.name a)
 
 abbrev pub member : Scope → NameTree → Meaning Typed
-member s n = thing_of s n >>= (λ x. refused_at 10 n.name)
+member s n = thing_of s n >>= (λ x. refused_at rule.WrongType n.name)
 
--- Where numbers stand alone, each name is refused (11).
+-- Where numbers stand alone, each name is refused (NotStatic).
 abbrev pub name_as_value : Names → NameTree → Meaning Typed
-name_as_value Nothing n = refused_at 11 n.name
+name_as_value Nothing n = refused_at rule.NotStatic n.name
 name_as_value (Within s) n = thing_of s n >>= value_of_thing n.name
 
 abbrev pub name_with_attribute : Names → NameTree → Attr → Meaning Typed
-name_with_attribute Nothing n a = refused_at 11 n.name
+name_with_attribute Nothing n a = refused_at rule.NotStatic n.name
 name_with_attribute (Within s) n a = attribute s n a
 
 abbrev pub name_with_member : Names → NameTree → Meaning Typed
-name_with_member Nothing n = refused_at 11 n.name
+name_with_member Nothing n = refused_at rule.NotStatic n.name
 name_with_member (Within s) n = member s n
 
 -- ---- operators
 
 abbrev pub number : List ℕ → Place → ℤ → Meaning Typed
-number owner p z = if is_short (single z) then Ok (static_number z) else refused 13 p owner
+number owner p z = if is_short (single z) then Ok (static_number z) else refused rule.TooWide p owner
 
 abbrev pub negative : List ℕ → Place → Typed → Meaning Typed
 negative owner p a =
     if is_number a.about.kind
     then Ok (record { tree = Neg a.tree; about = record a.about { interval = negation a.about.interval } })
-    else refused 10 p owner
+    else refused rule.WrongType p owner
 
 abbrev pub opposite : List ℕ → Place → Typed → Meaning Typed
-opposite owner p a = if is_truth a.about.kind then Ok (plain (Not a.tree) kind.Truth truths) else refused 10 p owner
+opposite owner p a = if is_truth a.about.kind then Ok (plain (Not a.tree) kind.Truth truths) else refused rule.WrongType p owner
 
--- the value, or 13 where it is too wide
+-- the value, or TooWide where it is too wide
 abbrev pub narrow : {A : Type 0} → List ℕ → Place → Option A → Meaning A
-narrow owner p None = refused 13 p owner
+narrow owner p None = refused rule.TooWide p owner
 narrow owner p (Some a) = Ok a
 
--- what is known of an operator's result, if it takes its operands (10), is linear (12) and narrow (13)
+-- what is known of an operator's result, if it takes its operands (WrongType), is linear (NotLinear) and narrow (TooWide)
 abbrev pub about_by : List ℕ → Option types.Operator → Place → About → About → Meaning About
 about_by owner o p l r =
-    if not (takes o l r) then refused 10 p owner
-    else (if not (is_linear o l r) then refused 12 p owner
+    if not (takes o l r) then refused rule.WrongType p owner
+    else (if not (is_linear o l r) then refused rule.NotLinear p owner
     else (narrow owner p (bounds_by o l.interval r.interval) >>= (λ i. Ok (about_both o l r i))))
 
--- the coefficients of the linear form are low (13)
+-- the coefficients of the linear form are low (TooWide)
 abbrev pub lowness : List ℕ → Place → Tree → Meaning (Unit {0})
-lowness owner p x = if are_low x then Ok tt else refused 13 p owner
+lowness owner p x = if are_low x then Ok tt else refused rule.TooWide p owner
 
 abbrev pub joined : List ℕ → Option types.Operator → Place → Typed → Typed → Meaning Typed
 joined owner o p l r = do

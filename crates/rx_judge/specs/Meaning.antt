@@ -4,10 +4,12 @@
 --   Tells e m                    the fault is the meaning's refusal, or want of memory
 --   each_from f n xs             the meanings of all items, in order; item i is f (n + i)
 --   all_stand_from f n xs        the same of items that only stand or are refused
-use Rattle.std.specs.Prelude.{◌≡◌, ℕ, ◌+◌, List, [], ◌∷◌, Result, Ok, Err, Bool, if◌then◌else◌}
+use Rattle.std.specs.Prelude.{◌≡◌, ℕ, ◌+◌, List, [], ◌∷◌, Some, Result, Ok, Err, Bool, if◌then◌else◌}
 use Rattle.rx_syntax.specs.declared.token.Place.{Place}
+use Rattle.rx_syntax.specs.declared.rule.Rule.{Rule}
+use Rattle.rx_syntax.specs.declared.rule.Refusal.{Refusal}
 use Rattle.rx_syntax.specs.declared.tree.Named.{Named}
-use Rattle.rx_judge.specs.declared.fault.Refusal.{Refusal}
+use Rattle.rx_syntax.specs.declared.rule.Rule.TheVariants as rule
 use Rattle.rx_judge.specs.declared.fault.Fault.{Fault}
 use Rattle.rx_judge.specs.declared.fault.Fault.TheVariants.{Refused, NoMemory}
 
@@ -21,12 +23,12 @@ Ok a >>= f = f a
 Err r >>= f = Err r
 
 -- refused at a place, where the name is that of what stands around it
-abbrev pub refused : {A : Type 0} → ℕ → Place → List ℕ → Meaning A
-refused n place owner = Err (record { number = n; place = place; name = owner })
+abbrev pub refused : {A : Type 0} → Rule → Place → List ℕ → Meaning A
+refused r place owner = Err (record { rule = r; place = place; word = Some owner })
 
 -- refused at a name
-abbrev pub refused_at : {A : Type 0} → ℕ → Named → Meaning A
-refused_at n name = refused n name.place name.word
+abbrev pub refused_at : {A : Type 0} → Rule → Named → Meaning A
+refused_at r name = refused r name.place name.word
 
 -- the value where the test holds, else this refusal
 abbrev pub stands_if : Bool → Refusal → Meaning (Unit {0})

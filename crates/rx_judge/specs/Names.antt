@@ -7,6 +7,7 @@ use Rattle.std.specs.Option.{option_or, option_map}
 use Rattle.std.specs.Str.{str_eq_ignore_ascii_case}
 use Rattle.rx_syntax.specs.declared.tree.Named.{Named}
 use Rattle.rx_syntax.specs.declared.tree.NameTree.{NameTree}
+use Rattle.rx_syntax.specs.declared.rule.Rule.TheVariants as rule
 use Rattle.rx_judge.specs.Meaning.{Meaning, refused_at}
 use Rattle.rx_judge.specs.Table.{Entry, found}
 use Rattle.rx_judge.specs.declared.names.KnownField.{KnownField}
@@ -50,14 +51,14 @@ own_thing s w = option_or (field_named s w) (option_or (literal_named s s.«pack
 abbrev pub is_visible : Scope → List ℕ → Bool
 is_visible s q = same s.«package» q || list_any (λ n. same n.word q) s.withs
 
--- the thing, if there is one; 8 at the name where there is none
+-- the thing, if there is one; UnknownName at the name where there is none
 abbrev pub known : {A : Type 0} → Named → Option A → Meaning A
-known name None = refused_at 8 name
+known name None = refused_at rule.UnknownName name
 known name (Some x) = Ok x
 
 abbrev pub thing_in : Scope → Option Named → Named → Meaning Thing
 thing_in s None name = known name (own_thing s name.word)
-thing_in s (Some q) name = if is_visible s q.word then known name (literal_named s q.word name.word) else refused_at 8 q
+thing_in s (Some q) name = if is_visible s q.word then known name (literal_named s q.word name.word) else refused_at rule.UnknownName q
 
 abbrev pub thing_of : Scope → NameTree → Meaning Thing
 thing_of s n = thing_in s n.«package» n.name

@@ -14,6 +14,7 @@ use Rattle.rx_syntax.specs.declared.tree.EnumAspect.{EnumAspect}
 use Rattle.rx_syntax.specs.declared.tree.EnumAspect.TheVariants as aspect
 use Rattle.rx_syntax.specs.declared.tree.DefTree.{DefTree}
 use Rattle.rx_syntax.specs.declared.tree.DefTree.TheVariants as def
+use Rattle.rx_syntax.specs.declared.rule.Rule.TheVariants as rule
 use Rattle.rx_types.specs.declared.scalar.Literal.{Literal}
 use Rattle.rx_types.specs.Domain.{Domain, Integer, Enumeration, EachPair}
 use Rattle.rx_types.specs.Names.{is_name_byte}
@@ -34,13 +35,13 @@ root_place (tree.Binary' o p q a s b) = p
 
 -- a declared word that is no name names nothing
 abbrev pub spelled : Named → Meaning (List ℕ)
-spelled n = if list_all is_name_byte n.word then Ok n.word else refused_at 8 n
+spelled n = if list_all is_name_byte n.word then Ok n.word else refused_at rule.UnknownName n
 
--- the value of an expression of numbers alone; 10 at its root where it is no number
+-- the value of an expression of numbers alone; WrongType at its root where it is no number
 abbrev pub static_value : List ℕ → ExprTree → Meaning ℤ
 static_value owner e = do
   x ← judged Nothing owner e
-  if is_number x.about.kind then Ok x.about.interval.low else refused 10 (root_place e) owner
+  if is_number x.about.kind then Ok x.about.interval.low else refused rule.WrongType (root_place e) owner
 
 -- ---- integers
 
@@ -50,7 +51,7 @@ is_size z = int_le (pos 1) z && int_le z (pos 63)
 abbrev pub unsigned : Named → ExprTree → Meaning Domain
 unsigned name e = do
   n ← static_value name.word e
-  if is_size n then Ok (Integer 0 (2 ^ nat_abs n - 1) (nat_abs n)) else refused_at 20 name
+  if is_size n then Ok (Integer 0 (2 ^ nat_abs n - 1) (nat_abs n)) else refused_at rule.BadRange name
 
 -- 0 <= a <= b <= 2 ^ n - 1
 abbrev pub is_range : ℤ → ℤ → ℤ → Bool
@@ -61,7 +62,7 @@ range name first last size = do
   a ← static_value name.word first
   b ← static_value name.word last
   n ← static_value name.word size
-  if is_range a b n then Ok (Integer (nat_abs a) (nat_abs b) (nat_abs n)) else refused_at 20 name
+  if is_range a b n then Ok (Integer (nat_abs a) (nat_abs b) (nat_abs n)) else refused_at rule.BadRange name
 
 -- ---- enumerations
 
@@ -105,9 +106,9 @@ abbrev pub is_distinct : List ℤ → Bool
 is_distinct [] = true
 is_distinct (z ∷ zs) = not (is_among z zs) && is_distinct zs
 
--- 14 where there is none
+-- MissingSize where there is none
 abbrev pub given : {A : Type 0} → Named → Option A → Meaning A
-given name None = refused_at 14 name
+given name None = refused_at rule.MissingSize name
 given name (Some a) = Ok a
 
 abbrev pub number_at : Option ℤ → ℕ
@@ -130,7 +131,7 @@ enumeration name ls xs = do
   zs ← numbers_of name.word ls
   sizes ← size_of_aspects name.word xs
   n ← given name (first_some sizes)
-  if are_literals n zs then (each_from (literal_at zs) 0 ls >>= (λ literals. Ok (Enumeration literals (nat_abs n) (always_valid xs)))) else refused_at 20 name
+  if are_literals n zs then (each_from (literal_at zs) 0 ls >>= (λ literals. Ok (Enumeration literals (nat_abs n) (always_valid xs)))) else refused_at rule.BadRange name
 
 -- the scalar type of a definition, if it is one
 abbrev pub definition : Named → DefTree → Meaning (Option Domain)

@@ -2,20 +2,12 @@
 
 ghost use Rattle.std.specs.Prelude.{◌≡◌, IfOk};
 
-use rx_syntax::{Named, Place, Word};
+use rx_syntax::{Named, Place, Refusal, Rule, Word};
 use std::alloc::{AllocError, AllocFailed, Global};
 
 /// Want of memory.
 #[derive(Clone, Copy, Debug, PartialEq, Eq)]
 pub struct NoMemory;
-
-/// The number of the rule that is broken, where it is, and the name that is told.
-#[derive(Debug, Drop)]
-pub struct Refusal {
-    pub number: u8,
-    pub place: Place,
-    pub name: Word,
-}
 
 /// Why there is no meaning.
 #[derive(Debug, Drop)]
@@ -83,20 +75,20 @@ impl<T: Drop> From<AllocFailed<T>> for Fault {
 }
 
 /// A refusal at a place, which tells the name of what stands around it.
-pub fn refused(alloc: Global, number: u8, place: Place, owner: &Word) -> Result<Refusal, NoMemory>
-    ensures { IfOk result (λ r. r ≡ record { number = number; place = place; name = owner.now }) }
+pub fn refused(alloc: Global, rule: Rule, place: Place, owner: &Word) -> Result<Refusal, NoMemory>
+    ensures { IfOk result (λ r. r ≡ record { rule = rule; place = place; word = Some owner.now }) }
 {
-    let name = owner.copy(alloc)?;
+    let word = owner.copy(alloc)?;
     Ok(Refusal {
-        number,
+        rule,
         place,
-        name,
+        word: Some(word),
     })
 }
 
 /// A refusal at a name.
-pub fn refused_at(alloc: Global, number: u8, name: &Named) -> Result<Refusal, NoMemory>
-    ensures { IfOk result (λ r. r ≡ record { number = number; place = name.now.place; name = name.now.word }) }
+pub fn refused_at(alloc: Global, rule: Rule, name: &Named) -> Result<Refusal, NoMemory>
+    ensures { IfOk result (λ r. r ≡ record { rule = rule; place = name.now.place; word = Some name.now.word }) }
 {
-    refused(alloc, number, name.place, &name.word)
+    refused(alloc, rule, name.place, &name.word)
 }

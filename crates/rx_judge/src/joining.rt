@@ -12,7 +12,7 @@ use crate::about::{self, About};
 use crate::fault::{Fault, NoMemory, refused};
 use crate::form::LinearForm;
 use crate::judged::Judged;
-use rx_syntax::{Place, Word};
+use rx_syntax::{Place, Rule, Word};
 use rx_types::{Expr, Operator};
 use std::alloc::Global;
 
@@ -31,13 +31,13 @@ fn about_by(
     ensures short { IfOk result (λ x. IsShort x.interval) }
 {
     if !about::takes(operator, left, right) {
-        return Err(Fault::Refused(refused(alloc, 10, place, owner)?));
+        return Err(Fault::Refused(refused(alloc, Rule::WrongType, place, owner)?));
     }
     if !about::is_linear(operator, left, right) {
-        return Err(Fault::Refused(refused(alloc, 12, place, owner)?));
+        return Err(Fault::Refused(refused(alloc, Rule::NotLinear, place, owner)?));
     }
     match about::bounds_by(operator, left.interval, right.interval) {
-        None => Err(Fault::Refused(refused(alloc, 13, place, owner)?)),
+        None => Err(Fault::Refused(refused(alloc, Rule::TooWide, place, owner)?)),
         Some(interval) => Ok(about::about_both(operator, left, right, interval)),
     }
 }
@@ -128,13 +128,13 @@ fn low_form(
 {
     let form = form_by(alloc, operator, left, right)?;
     if !form.is_low() {
-        return Err(Fault::Refused(refused(alloc, 13, place, owner)?));
+        return Err(Fault::Refused(refused(alloc, Rule::TooWide, place, owner)?));
     }
     Ok(form)
 }
 
-/// The operator's expression: 10, 12 or 13 at the operator where its operands are of the wrong kind, where it is
-/// not linear, or where it is too wide.
+/// The operator's expression: WrongType, NotLinear or TooWide at the operator where its operands are of the wrong
+/// kind, where it is not linear, or where it is too wide.
 pub fn joined(
     alloc: Global,
     owner: &Word,

@@ -14,7 +14,7 @@ use crate::form::{LinearForm, Unknown};
 use crate::joining::joined;
 use crate::judged::Judged;
 use crate::names::{self, FieldKind, KnownField, KnownLiteral, Names, Scope, Thing};
-use rx_syntax::{Attr, ExprTree, NameTree, Named, Place, Word};
+use rx_syntax::{Attr, ExprTree, NameTree, Named, Place, Rule, Word};
 use rx_types::{Expr, Interval, Kind, Operator};
 use std::alloc::Global;
 
@@ -36,7 +36,7 @@ fn number(alloc: Global, owner: &Word, place: Place, value: i128) -> Result<Judg
     ensures refusal { IfErr result (λ e. Tells e (number owner.now place value)) }
 {
     if !rx_types::is_short(value, value) {
-        return Err(Fault::Refused(refused(alloc, 13, place, owner)?));
+        return Err(Fault::Refused(refused(alloc, Rule::TooWide, place, owner)?));
     }
     Ok(Judged {
         expr: Expr::Number(value),
@@ -67,7 +67,7 @@ fn value_of_field(alloc: Global, name: &Named, field: KnownField) -> Result<Judg
                 form,
             })
         }
-        FieldKind::Bytes => Err(Fault::Refused(refused_at(alloc, 10, name)?)),
+        FieldKind::Bytes => Err(Fault::Refused(refused_at(alloc, Rule::WrongType, name)?)),
     }
 }
 
@@ -173,7 +173,7 @@ fn attribute_of_thing(
             )?;
             Ok(judged)
         }
-        _ => Err(Fault::Refused(refused_at(alloc, 10, name)?)),
+        _ => Err(Fault::Refused(refused_at(alloc, Rule::WrongType, name)?)),
     }
 }
 
@@ -213,7 +213,7 @@ fn attribute_of_message(alloc: Global, name: &Named, attr: Attr) -> Result<Judge
             let judged = leaf(alloc, Expr::Total, Unknown::Bits, 0, 1 << 27)?;
             Ok(judged)
         }
-        _ => Err(Fault::Refused(refused_at(alloc, 10, name)?)),
+        _ => Err(Fault::Refused(refused_at(alloc, Rule::WrongType, name)?)),
     }
 }
 
@@ -231,7 +231,7 @@ fn name_as_value(alloc: Global, names: &Names<'_>, name: &NameTree) -> Result<Ju
     ensures refusal { IfErr result (λ e. Tells e (name_as_value (names_of names.now) name.now)) }
 {
     match names {
-        Names::Nothing => Err(Fault::Refused(refused_at(alloc, 11, &name.name)?)),
+        Names::Nothing => Err(Fault::Refused(refused_at(alloc, Rule::NotStatic, &name.name)?)),
         Names::Within(scope) => {
             let thing = names::thing_of(alloc, scope, name)?;
             let value = value_of_thing(alloc, &name.name, thing)?;
@@ -250,7 +250,7 @@ fn name_with_attribute(
     ensures refusal { IfErr result (λ e. Tells e (name_with_attribute (names_of names.now) name.now attr)) }
 {
     match names {
-        Names::Nothing => Err(Fault::Refused(refused_at(alloc, 11, &name.name)?)),
+        Names::Nothing => Err(Fault::Refused(refused_at(alloc, Rule::NotStatic, &name.name)?)),
         Names::Within(scope) => {
             if is_message(name) {
                 return attribute_of_message(alloc, &name.name, attr);
@@ -267,10 +267,10 @@ fn name_with_member(alloc: Global, names: &Names<'_>, name: &NameTree) -> Result
     ensures refusal { IfErr result (λ e. Tells e (name_with_member (names_of names.now) name.now)) }
 {
     match names {
-        Names::Nothing => Err(Fault::Refused(refused_at(alloc, 11, &name.name)?)),
+        Names::Nothing => Err(Fault::Refused(refused_at(alloc, Rule::NotStatic, &name.name)?)),
         Names::Within(scope) => {
             names::thing_of(alloc, scope, name)?;
-            Err(Fault::Refused(refused_at(alloc, 10, &name.name)?))
+            Err(Fault::Refused(refused_at(alloc, Rule::WrongType, &name.name)?))
         }
     }
 }
@@ -280,7 +280,7 @@ fn negative(alloc: Global, owner: &Word, place: Place, part: Judged) -> Result<J
     ensures refusal { IfErr result (λ e. Tells e (negative owner.now place (typed part))) }
 {
     if !about::is_number(part.about.kind) {
-        return Err(Fault::Refused(refused(alloc, 10, place, owner)?));
+        return Err(Fault::Refused(refused(alloc, Rule::WrongType, place, owner)?));
     }
     let interval = rx_types::negation(part.about.interval.low, part.about.interval.high);
     let about = About {
@@ -297,7 +297,7 @@ fn opposite(alloc: Global, owner: &Word, place: Place, part: Judged) -> Result<J
     ensures refusal { IfErr result (λ e. Tells e (opposite owner.now place (typed part))) }
 {
     if !about::is_truth(part.about.kind) {
-        return Err(Fault::Refused(refused(alloc, 10, place, owner)?));
+        return Err(Fault::Refused(refused(alloc, Rule::WrongType, place, owner)?));
     }
     let expr = Expr::not(alloc, part.expr)?;
     Ok(Judged {

@@ -13,7 +13,7 @@ mod scalar;
 mod table;
 
 pub use about::{About, is_number, is_truth};
-pub use fault::{Fault, NoMemory, Refusal, refused, refused_at};
+pub use fault::{Fault, NoMemory, refused, refused_at};
 pub use form::{LinearForm, Term, Unknown};
 pub use judged::Judged;
 pub use judging::judge;

@@ -7,7 +7,7 @@ ghost use Rattle.rx_judge.specs.Names.{same, truth_named, own_thing, is_visible,
 
 use crate::fault::{Fault, NoMemory, refused_at};
 use crate::table::Table;
-use rx_syntax::{NameTree, Named, Word};
+use rx_syntax::{NameTree, Named, Rule, Word};
 use rx_types::{FieldId, Kind, TypeId};
 use std::alloc::Global;
 
@@ -96,7 +96,7 @@ fn is_visible(scope: &Scope<'_>, package: &Word) -> bool
     scope.package.same(package) || is_among(scope.withs, package)
 }
 
-/// What the name stands for; 8 where it stands for nothing.
+/// What the name stands for; UnknownName where it stands for nothing.
 pub fn thing_of(alloc: Global, scope: &Scope<'_>, name: &NameTree) -> Result<Thing, Fault>
     ensures thing { IfOk result (λ x. thing_of (scope_of scope.now) name.now ≡ Ok x) }
     ensures refusal { IfErr result (λ e. Tells e (thing_of (scope_of scope.now) name.now)) }
@@ -104,11 +104,11 @@ pub fn thing_of(alloc: Global, scope: &Scope<'_>, name: &NameTree) -> Result<Thi
     match &name.package {
         None => match own_thing(alloc, scope, &name.name.word)? {
             Some(thing) => Ok(thing),
-            None => Err(Fault::Refused(refused_at(alloc, 8, &name.name)?)),
+            None => Err(Fault::Refused(refused_at(alloc, Rule::UnknownName, &name.name)?)),
         },
         Some(package) => {
             if !is_visible(scope, &package.word) {
-                return Err(Fault::Refused(refused_at(alloc, 8, package)?));
+                return Err(Fault::Refused(refused_at(alloc, Rule::UnknownName, package)?));
             }
             let prefix = package.word.as_str().as_bytes();
             match scope
@@ -116,7 +116,7 @@ pub fn thing_of(alloc: Global, scope: &Scope<'_>, name: &NameTree) -> Result<Thi
                 .find(alloc, prefix, name.name.word.as_str().as_bytes())?
             {
                 Some(literal) => Ok(Thing::Literal(literal)),
-                None => Err(Fault::Refused(refused_at(alloc, 8, &name.name)?)),
+                None => Err(Fault::Refused(refused_at(alloc, Rule::UnknownName, &name.name)?)),
             }
         }
     }

@@ -13,7 +13,7 @@ use crate::fault::{Fault, NoMemory, refused, refused_at};
 use crate::judging::judge;
 use crate::names::Names;
 use indexmap::IndexSet;
-use rx_syntax::{DefTree, EnumAspect, ExprTree, LiteralTree, Named, Place, Word};
+use rx_syntax::{DefTree, EnumAspect, ExprTree, LiteralTree, Named, Place, Rule, Word};
 use rx_types::{Literal, Name, ScalarType};
 use std::alloc::Global;
 
@@ -32,14 +32,14 @@ pub fn root_place(tree: &ExprTree) -> Place
     }
 }
 
-/// The name that is declared; 8 where the word is none.
+/// The name that is declared; UnknownName where the word is none.
 pub fn spelled(alloc: Global, name: &Named) -> Result<Name, Fault>
     ensures meaning { IfOk result (λ n. spelled name.now ≡ Ok n) }
     ensures refusal { IfErr result (λ e. Tells e (spelled name.now)) }
 {
     let bytes = name.word.as_str().as_bytes();
     if !rx_types::is_name(bytes) {
-        return Err(Fault::Refused(refused_at(alloc, 8, name)?));
+        return Err(Fault::Refused(refused_at(alloc, Rule::UnknownName, name)?));
     }
     Ok(Name::make(alloc, bytes)?)
 }
@@ -53,7 +53,7 @@ pub fn static_value(alloc: Global, owner: &Word, tree: &ExprTree) -> Result<i128
     if about::is_number(judged.about.kind) {
         Ok(judged.about.interval.low)
     } else {
-        Err(Fault::Refused(refused(alloc, 10, root_place(tree), owner)?))
+        Err(Fault::Refused(refused(alloc, Rule::WrongType, root_place(tree), owner)?))
     }
 }
 
@@ -70,7 +70,7 @@ fn unsigned(alloc: Global, name: &Named, size: &ExprTree) -> Result<ScalarType, 
 {
     let size = static_value(alloc, &name.word, size)?;
     if !is_size(size) {
-        return Err(Fault::Refused(refused_at(alloc, 20, name)?));
+        return Err(Fault::Refused(refused_at(alloc, Rule::BadRange, name)?));
     }
     Ok(ScalarType::Integer {
         first: 0,
@@ -99,7 +99,7 @@ fn range(
     let last = static_value(alloc, &name.word, last)?;
     let size = static_value(alloc, &name.word, size)?;
     if !is_range(first, last, size) {
-        return Err(Fault::Refused(refused_at(alloc, 20, name)?));
+        return Err(Fault::Refused(refused_at(alloc, Rule::BadRange, name)?));
     }
     Ok(ScalarType::Integer {
         first: first as u64,
@@ -276,10 +276,10 @@ fn enumeration(
     let numbers = numbers_of(alloc, &name.word, literals)?;
     let sizes = size_of_aspects(alloc, &name.word, aspects)?;
     let Some(size) = first_some(&sizes) else {
-        return Err(Fault::Refused(refused_at(alloc, 14, name)?));
+        return Err(Fault::Refused(refused_at(alloc, Rule::MissingSize, name)?));
     };
     if !are_literals(alloc, size, &numbers)? {
-        return Err(Fault::Refused(refused_at(alloc, 20, name)?));
+        return Err(Fault::Refused(refused_at(alloc, Rule::BadRange, name)?));
     }
     let literals = literals_of(alloc, &numbers, literals)?;
     Ok(ScalarType::Enumeration {
@@ -289,8 +289,8 @@ fn enumeration(
     })
 }
 
-// The scalar type of a definition, if it is one. Its expressions are of numbers alone (10 to 13), an enumeration has
-// its Size (14), and the numbers are those of its size (20).
+// The scalar type of a definition, if it is one: its expressions are of numbers alone, an enumeration has its Size
+// (MissingSize), and the numbers are those of its size (BadRange).
 fn defined(alloc: Global, name: &Named, def: &DefTree) -> Result<Option<ScalarType>, Fault>
     ensures meaning { IfOk result (λ s. definition name.now def.now ≡ Ok (option_map domain_of s)) }
     ensures refusal { IfErr result (λ e. Tells e (definition name.now def.now)) }
@@ -312,8 +312,8 @@ fn defined(alloc: Global, name: &Named, def: &DefTree) -> Result<Option<ScalarTy
     }
 }
 
-/// The scalar type of a definition, if it is one. Its expressions are of numbers alone (10 to 13), an enumeration has
-/// its Size (14), and the numbers are those of its size (20).
+/// The scalar type of a definition, if it is one: its expressions are of numbers alone, an enumeration has its Size
+/// (MissingSize), and the numbers are those of its size (BadRange).
 pub fn definition(alloc: Global, name: &Named, def: &DefTree) -> Result<Option<ScalarType>, Fault>
     ensures meaning { IfOk result (λ s. definition name.now def.now ≡ Ok (option_map domain_of s)) }
     ensures refusal { IfErr result (λ e. Tells e (definition name.now def.now)) }

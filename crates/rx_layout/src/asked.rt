@@ -1,31 +1,29 @@
 //! What a goal asks at the end of a path.
 
-ghost use Rattle.std.specs.Prelude.{◌≡◌, ℕ, [], ◌∷◌, ◌++◌, ◌+◌, ◌-◌, ◌≤◌, ◌<◌, length, Some, None, slice_get, IfOk, IfSome, OnOk};
+ghost use Rattle.std.specs.Prelude.{◌≡◌, ℕ, [], ◌∷◌, ◌+◌, ◌-◌, ◌≤◌, ◌<◌, length, Some, None, slice_get, IfOk, IfSome, OnOk};
 ghost use Rattle.rx_types.specs.Narrow.{IsShort, places_in_bits};
 ghost use Rattle.rx_types.specs.Tree.{tree_if_any};
-ghost use Rattle.rx_graph.specs.Checks.{is_node};
 ghost use Rattle.rx_graph.specs.Cycles.{IsLink};
-ghost use Rattle.rx_graph.specs.Graph.{arrow_of, graph_of, type_of, overlay_of};
-ghost use Rattle.rx_forms.specs.Normal.{divisions_in};
-ghost use Rattle.rx_forms.specs.Steps.{IsFormable, IsNarrowLink, AreFormable, AreNarrow, IsNarrowIfAny, target_field, form_or, end_form, size_aspect, first_form};
-ghost use Rattle.rx_forms.specs.Code.{domains_in, limits_in};
+ghost use Rattle.rx_graph.specs.Graph.{arrow_of, type_of, overlay_of};
+ghost use Rattle.rx_forms.specs.Steps.{IsFormable, IsNarrowLink, IsNarrowIfAny, target_field, form_or, end_form, size_aspect, first_form};
 ghost use Rattle.rx_forms.specs.Fronts.{front_of, after_end};
 ghost use Rattle.rx_layout.specs.Fitting.{IsLowTo, IsFitting};
 ghost use Rattle.rx_layout.specs.Goals.{IsGoal, HasLink, LeadsToBytes};
 ghost use Rattle.rx_layout.specs.Made.{asked_link, behind, after_any, after_target, IsTarget, grid_units, size_behind, formula_behind, units_behind};
-ghost use Rattle.rx_layout.specs.QueryOf.{goal_step, asked_of, unit_rows, null_formula, link_numbered, interval_or, rest_interval, taken_asked, position_asked, grid_asked, overlay_on, overlay_asked, cover_asked, cover_to, whole_asked, asked_by, with_link};
+ghost use Rattle.rx_layout.specs.QueryOf.{goal_step, asked_of, unit_rows, null_formula, link_numbered, interval_or, rest_interval, taken_asked, position_asked, grid_asked, overlay_asked, cover_asked, whole_asked, asked_by, with_link};
+ghost use Rattle.rx_forms.specs.Code.{limits};
 
-use crate::checklist::{LinkCheck, Subject, leaves, subject_of};
-use crate::fields::overlay_of;
+use crate::checklist::{LinkCheck, Subject, subject_of};
 use crate::formula::{
     cover_formula, grid_formula, last_end, no_multiple, null_formula, overlay_formula,
     position_formula, push_units,
 };
 use crate::goal::Goal;
 use rx_forms::{
-    Builder, Form, FormFault, Linear, add_condition, first_form, interval_of, size_form, size_of,
+    Builder, Form, FormFault, Linear, add_condition, first_form, interval_of, links_have_forms,
+    size_form, size_of,
 };
-use rx_graph::{Link, Message, Node, Scalar};
+use rx_graph::{Elaborated, Link, Node};
 use rx_types::{Expr, FieldId, Interval};
 use sqlite_items::Items;
 use std::alloc::Global;
@@ -52,15 +50,14 @@ fn target_field(link: &Link) -> FieldId
 fn target_first(
     alloc: Global,
     link: &Link,
-    message: &Message,
-    scalars: &[Scalar],
+    message: &Elaborated<'_>,
     builder: &mut Builder,
 ) -> Result<Linear, FormFault>
-    requires formable { IsFormable (limits_in scalars.now message.now) (arrow_of link.now) }
-    requires narrow { IsNarrowLink (limits_in scalars.now message.now) (arrow_of link.now) }
+    requires formable { IsFormable (limits message.now) (arrow_of link.now) }
+    requires narrow { IsNarrowLink (limits message.now) (arrow_of link.now) }
     requires room { builder.old.work.next ≤ 190 }
     ensures first { IfOk result (λ f. f ≡ form_or (arrow_of link.now).first (front_of builder.old).fields builder.old.work.next (end_form (front_of builder.old).fields)) }
-    ensures gone { OnOk result (front_of builder.new ≡ after_any (domains_in scalars.now) (graph_of message.now) (arrow_of link.now).first (front_of builder.old)) }
+    ensures gone { OnOk result (front_of builder.new ≡ after_any message.now.domains message.now.graph (arrow_of link.now).first (front_of builder.old)) }
     ensures fits { OnOk result ((n : ℕ) → builder.new.work.next ≤ n → IsFitting n (front_of builder.old) → IsFitting n (front_of builder.new)) }
     ensures low { IfOk result (λ f. (n : ℕ) → builder.new.work.next ≤ n → IsFitting n (front_of builder.old) → IsLowTo builder.new.work.next f) }
     ensures room { OnOk result (builder.new.work.next ≤ 190) }
@@ -69,7 +66,6 @@ fn target_first(
         alloc,
         &link.first,
         message,
-        scalars,
         builder.fields.as_slice(),
         &mut builder.work,
     )
@@ -82,15 +78,14 @@ fn target_size(
     link: &Link,
     field: FieldId,
     first: &Linear,
-    message: &Message,
-    scalars: &[Scalar],
+    message: &Elaborated<'_>,
     builder: &mut Builder,
 ) -> Result<Linear, FormFault>
-    requires formable { IsFormable (limits_in scalars.now message.now) (arrow_of link.now) }
-    requires narrow { IsNarrowLink (limits_in scalars.now message.now) (arrow_of link.now) }
+    requires formable { IsFormable (limits message.now) (arrow_of link.now) }
+    requires narrow { IsNarrowLink (limits message.now) (arrow_of link.now) }
     requires room { builder.old.work.next ≤ 190 }
-    ensures size { IfOk result (λ f. f ≡ size_behind (type_of (domains_in scalars.now) (graph_of message.now) field) first.now (arrow_of link.now).size (front_of builder.old)) }
-    ensures gone { OnOk result (front_of builder.new ≡ after_any (domains_in scalars.now) (graph_of message.now) (size_aspect (type_of (domains_in scalars.now) (graph_of message.now) field) (arrow_of link.now).size) (front_of builder.old)) }
+    ensures size { IfOk result (λ f. f ≡ size_behind (type_of message.now.domains message.now.graph field) first.now (arrow_of link.now).size (front_of builder.old)) }
+    ensures gone { OnOk result (front_of builder.new ≡ after_any message.now.domains message.now.graph (size_aspect (type_of message.now.domains message.now.graph field) (arrow_of link.now).size) (front_of builder.old)) }
     ensures fits { OnOk result ((n : ℕ) → builder.new.work.next ≤ n → IsFitting n (front_of builder.old) → IsFitting n (front_of builder.new)) }
     ensures low { IfOk result (λ f. (n : ℕ) → builder.new.work.next ≤ n → IsFitting n (front_of builder.old) → length first.now.coefficients ≤ builder.old.work.next → IsLowTo builder.new.work.next f) }
     ensures room { OnOk result (builder.new.work.next ≤ 190) }
@@ -101,7 +96,6 @@ fn target_size(
         &link.size,
         first,
         message,
-        scalars,
         builder.fields.as_slice(),
         &mut builder.work,
     )
@@ -112,18 +106,17 @@ fn target_size(
 fn ask_condition(
     alloc: Global,
     link: &Link,
-    message: &Message,
-    scalars: &[Scalar],
+    message: &Elaborated<'_>,
     builder: &mut Builder,
 ) -> Result<(), FormFault>
-    requires formable { IsFormable (limits_in scalars.now message.now) (arrow_of link.now) }
-    requires narrow { IsNarrowLink (limits_in scalars.now message.now) (arrow_of link.now) }
+    requires formable { IsFormable (limits message.now) (arrow_of link.now) }
+    requires narrow { IsNarrowLink (limits message.now) (arrow_of link.now) }
     requires room { builder.old.work.next ≤ 190 }
-    ensures gone { OnOk result (front_of builder.new ≡ after_end (domains_in scalars.now) (graph_of message.now) (front_of builder.old) (arrow_of link.now)) }
+    ensures gone { OnOk result (front_of builder.new ≡ after_end message.now.domains message.now.graph (front_of builder.old) (arrow_of link.now)) }
     ensures fits { OnOk result ((n : ℕ) → builder.new.work.next ≤ n → IsFitting n (front_of builder.old) → IsFitting n (front_of builder.new)) }
     ensures room { OnOk result (builder.new.work.next ≤ 190) }
 {
-    add_condition(alloc, link, message, scalars, builder)
+    add_condition(alloc, link, message, builder)
 }
 
 // The condition of a link, and the First of its target.
@@ -131,21 +124,20 @@ fn ask_condition(
 fn ask_first(
     alloc: Global,
     link: &Link,
-    message: &Message,
-    scalars: &[Scalar],
+    message: &Elaborated<'_>,
     builder: &mut Builder,
 ) -> Result<Linear, FormFault>
-    requires formable { IsFormable (limits_in scalars.now message.now) (arrow_of link.now) }
-    requires narrow { IsNarrowLink (limits_in scalars.now message.now) (arrow_of link.now) }
+    requires formable { IsFormable (limits message.now) (arrow_of link.now) }
+    requires narrow { IsNarrowLink (limits message.now) (arrow_of link.now) }
     requires room { builder.old.work.next ≤ 190 }
-    ensures first { IfOk result (λ f. f ≡ first_form (goal_step (domains_in scalars.now) (graph_of message.now) (front_of builder.old).fields builder.old.work.next (arrow_of link.now))) }
-    ensures gone { OnOk result (front_of builder.new ≡ after_any (domains_in scalars.now) (graph_of message.now) (arrow_of link.now).first (after_end (domains_in scalars.now) (graph_of message.now) (front_of builder.old) (arrow_of link.now))) }
+    ensures first { IfOk result (λ f. f ≡ first_form (goal_step message.now.domains message.now.graph (front_of builder.old).fields builder.old.work.next (arrow_of link.now))) }
+    ensures gone { OnOk result (front_of builder.new ≡ after_any message.now.domains message.now.graph (arrow_of link.now).first (after_end message.now.domains message.now.graph (front_of builder.old) (arrow_of link.now))) }
     ensures fits { OnOk result ((n : ℕ) → builder.new.work.next ≤ n → IsFitting n (front_of builder.old) → IsFitting n (front_of builder.new)) }
     ensures low { IfOk result (λ f. (n : ℕ) → builder.new.work.next ≤ n → IsFitting n (front_of builder.old) → IsLowTo builder.new.work.next f) }
     ensures room { OnOk result (builder.new.work.next ≤ 190) }
 {
-    ask_condition(alloc, link, message, scalars, builder)?;
-    target_first(alloc, link, message, scalars, builder)
+    ask_condition(alloc, link, message, builder)?;
+    target_first(alloc, link, message, builder)
 }
 
 // The condition of a link, and the First and the Size of its target.
@@ -153,22 +145,21 @@ fn ask_first(
 fn ask_target(
     alloc: Global,
     link: &Link,
-    message: &Message,
-    scalars: &[Scalar],
+    message: &Elaborated<'_>,
     builder: &mut Builder,
 ) -> Result<Target, FormFault>
-    requires formable { IsFormable (limits_in scalars.now message.now) (arrow_of link.now) }
-    requires narrow { IsNarrowLink (limits_in scalars.now message.now) (arrow_of link.now) }
+    requires formable { IsFormable (limits message.now) (arrow_of link.now) }
+    requires narrow { IsNarrowLink (limits message.now) (arrow_of link.now) }
     requires room { builder.old.work.next ≤ 190 }
-    ensures target { IfOk result (λ t. IsTarget (domains_in scalars.now) (graph_of message.now) (arrow_of link.now) (front_of builder.old) t.first t.size) }
-    ensures gone { OnOk result (front_of builder.new ≡ after_target (domains_in scalars.now) (graph_of message.now) (arrow_of link.now) (front_of builder.old)) }
+    ensures target { IfOk result (λ t. IsTarget message.now.domains message.now.graph (arrow_of link.now) (front_of builder.old) t.first t.size) }
+    ensures gone { OnOk result (front_of builder.new ≡ after_target message.now.domains message.now.graph (arrow_of link.now) (front_of builder.old)) }
     ensures fits { OnOk result ((n : ℕ) → builder.new.work.next ≤ n → IsFitting n (front_of builder.old) → IsFitting n (front_of builder.new)) }
     ensures low { IfOk result (λ t. (n : ℕ) → builder.new.work.next ≤ n → IsFitting n (front_of builder.old) → IsLowTo builder.new.work.next t.first × IsLowTo builder.new.work.next t.size) }
     ensures room { OnOk result (builder.new.work.next ≤ 190) }
 {
-    let first = ask_first(alloc, link, message, scalars, builder)?;
+    let first = ask_first(alloc, link, message, builder)?;
     let field = target_field(link);
-    let size = target_size(alloc, link, field, &first, message, scalars, builder)?;
+    let size = target_size(alloc, link, field, &first, message, builder)?;
     Ok(Target { first, size })
 }
 
@@ -193,19 +184,14 @@ fn push_quotient(alloc: Global, interval: &Interval, builder: &mut Builder) -> R
 }
 
 // The interval of an aspect, another one where there is none.
-fn interval_or(
-    aspect: &Option<Expr>,
-    otherwise: Interval,
-    message: &Message,
-    scalars: &[Scalar],
-) -> Interval
-    requires narrow { IsNarrowIfAny (limits_in scalars.now message.now) (tree_if_any aspect.now) }
+fn interval_or(aspect: &Option<Expr>, otherwise: Interval, message: &Elaborated<'_>) -> Interval
+    requires narrow { IsNarrowIfAny (limits message.now) (tree_if_any aspect.now) }
     requires short { IsShort otherwise }
-    ensures value { result ≡ interval_or (limits_in scalars.now message.now) (tree_if_any aspect.now) otherwise }
+    ensures value { result ≡ interval_or (limits message.now) (tree_if_any aspect.now) otherwise }
     ensures short { IsShort result }
 {
     match aspect {
-        Some(aspect) => interval_of(aspect, message, scalars),
+        Some(aspect) => interval_of(aspect, message),
         None => otherwise,
     }
 }
@@ -217,18 +203,17 @@ fn interval_or(
 fn ask_taken(
     alloc: Global,
     link: &Link,
-    message: &Message,
-    scalars: &[Scalar],
+    message: &Elaborated<'_>,
     builder: &mut Builder,
 ) -> Result<(), FormFault>
-    requires formable { IsFormable (limits_in scalars.now message.now) (arrow_of link.now) }
-    requires narrow { IsNarrowLink (limits_in scalars.now message.now) (arrow_of link.now) }
+    requires formable { IsFormable (limits message.now) (arrow_of link.now) }
+    requires narrow { IsNarrowLink (limits message.now) (arrow_of link.now) }
     requires room { builder.old.work.next ≤ 190 }
-    ensures gone { OnOk result (front_of builder.new ≡ behind (taken_asked (domains_in scalars.now) (graph_of message.now) (front_of builder.old).fields builder.old.work.next (arrow_of link.now ∷ [])) (front_of builder.old)) }
+    ensures gone { OnOk result (front_of builder.new ≡ behind (taken_asked message.now.domains message.now.graph (front_of builder.old).fields builder.old.work.next (arrow_of link.now ∷ [])) (front_of builder.old)) }
     ensures fits { OnOk result ((n : ℕ) → builder.new.work.next ≤ n → IsFitting n (front_of builder.old) → IsFitting n (front_of builder.new)) }
     ensures room { OnOk result (builder.new.work.next ≤ 190) }
 {
-    ask_condition(alloc, link, message, scalars, builder)
+    ask_condition(alloc, link, message, builder)
 }
 
 // First or Size of the target is below 0.
@@ -236,18 +221,17 @@ fn ask_taken(
 fn ask_position(
     alloc: Global,
     link: &Link,
-    message: &Message,
-    scalars: &[Scalar],
+    message: &Elaborated<'_>,
     builder: &mut Builder,
 ) -> Result<(), FormFault>
-    requires formable { IsFormable (limits_in scalars.now message.now) (arrow_of link.now) }
-    requires narrow { IsNarrowLink (limits_in scalars.now message.now) (arrow_of link.now) }
+    requires formable { IsFormable (limits message.now) (arrow_of link.now) }
+    requires narrow { IsNarrowLink (limits message.now) (arrow_of link.now) }
     requires room { builder.old.work.next ≤ 190 }
-    ensures gone { OnOk result (front_of builder.new ≡ behind (position_asked (domains_in scalars.now) (graph_of message.now) (front_of builder.old).fields builder.old.work.next (arrow_of link.now)) (front_of builder.old)) }
+    ensures gone { OnOk result (front_of builder.new ≡ behind (position_asked message.now.domains message.now.graph (front_of builder.old).fields builder.old.work.next (arrow_of link.now)) (front_of builder.old)) }
     ensures fits { OnOk result ((n : ℕ) → builder.new.work.next ≤ n → IsFitting n (front_of builder.old) → IsFitting n (front_of builder.new)) }
     ensures room { OnOk result (builder.new.work.next ≤ 190) }
 {
-    let target = ask_target(alloc, link, message, scalars, builder)?;
+    let target = ask_target(alloc, link, message, builder)?;
     let formula = position_formula(alloc, &target.first, &target.size)?;
     push_formula(formula, builder)
 }
@@ -279,18 +263,17 @@ fn rest() -> Interval
 fn push_quotients(
     alloc: Global,
     link: &Link,
-    message: &Message,
-    scalars: &[Scalar],
+    message: &Elaborated<'_>,
     builder: &mut Builder,
 ) -> Result<(), FormFault>
-    requires narrow { IsNarrowLink (limits_in scalars.now message.now) (arrow_of link.now) }
+    requires narrow { IsNarrowLink (limits message.now) (arrow_of link.now) }
     requires room { builder.old.work.next ≤ 190 }
-    ensures gone { OnOk result (front_of builder.new ≡ units_behind (grid_units (domains_in scalars.now) (graph_of message.now) builder.old.work.next (arrow_of link.now)) 2 (front_of builder.old)) }
+    ensures gone { OnOk result (front_of builder.new ≡ units_behind (grid_units message.now.domains message.now.graph builder.old.work.next (arrow_of link.now)) 2 (front_of builder.old)) }
     ensures fits { OnOk result ((n : ℕ) → builder.new.work.next ≤ n → IsFitting n (front_of builder.old) → IsFitting n (front_of builder.new)) }
 {
-    let first = interval_or(&link.first, places(), message, scalars);
+    let first = interval_or(&link.first, places(), message);
     push_quotient(alloc, &first, builder)?;
-    let size = interval_or(&link.size, rest(), message, scalars);
+    let size = interval_or(&link.size, rest(), message);
     push_quotient(alloc, &size, builder)
 }
 
@@ -299,22 +282,21 @@ fn push_quotients(
 fn ask_grid(
     alloc: Global,
     link: &Link,
-    message: &Message,
-    scalars: &[Scalar],
+    message: &Elaborated<'_>,
     builder: &mut Builder,
 ) -> Result<(), FormFault>
-    requires formable { IsFormable (limits_in scalars.now message.now) (arrow_of link.now) }
-    requires narrow { IsNarrowLink (limits_in scalars.now message.now) (arrow_of link.now) }
+    requires formable { IsFormable (limits message.now) (arrow_of link.now) }
+    requires narrow { IsNarrowLink (limits message.now) (arrow_of link.now) }
     requires room { builder.old.work.next ≤ 190 }
-    requires bytes { type_of (domains_in scalars.now) (graph_of message.now) (target_field (arrow_of link.now).target) ≡ None }
-    ensures gone { OnOk result (front_of builder.new ≡ behind (grid_asked (domains_in scalars.now) (graph_of message.now) (front_of builder.old).fields builder.old.work.next (arrow_of link.now)) (front_of builder.old)) }
+    requires bytes { type_of message.now.domains message.now.graph (target_field (arrow_of link.now).target) ≡ None }
+    ensures gone { OnOk result (front_of builder.new ≡ behind (grid_asked message.now.domains message.now.graph (front_of builder.old).fields builder.old.work.next (arrow_of link.now)) (front_of builder.old)) }
     ensures fits { OnOk result ((n : ℕ) → builder.new.work.next ≤ n → IsFitting n (front_of builder.old) → IsFitting n (front_of builder.new)) }
     ensures room { OnOk result (builder.new.work.next ≤ 192) }
 {
-    let target = ask_target(alloc, link, message, scalars, builder)?;
+    let target = ask_target(alloc, link, message, builder)?;
     let formula = grid_formula(alloc, &target.first, &target.size, builder.work.next)?;
     push_formula(formula, builder)?;
-    push_quotients(alloc, link, message, scalars, builder)
+    push_quotients(alloc, link, message, builder)
 }
 
 // The Size of the target is not that of the field below.
@@ -323,18 +305,17 @@ fn ask_overlay(
     alloc: Global,
     link: &Link,
     below: FieldId,
-    message: &Message,
-    scalars: &[Scalar],
+    message: &Elaborated<'_>,
     builder: &mut Builder,
 ) -> Result<(), FormFault>
-    requires formable { IsFormable (limits_in scalars.now message.now) (arrow_of link.now) }
-    requires narrow { IsNarrowLink (limits_in scalars.now message.now) (arrow_of link.now) }
+    requires formable { IsFormable (limits message.now) (arrow_of link.now) }
+    requires narrow { IsNarrowLink (limits message.now) (arrow_of link.now) }
     requires room { builder.old.work.next ≤ 190 }
-    ensures gone { OnOk result (front_of builder.new ≡ behind (overlay_asked (domains_in scalars.now) (graph_of message.now) (front_of builder.old).fields builder.old.work.next (arrow_of link.now) below) (front_of builder.old)) }
+    ensures gone { OnOk result (front_of builder.new ≡ behind (overlay_asked message.now.domains message.now.graph (front_of builder.old).fields builder.old.work.next (arrow_of link.now) below) (front_of builder.old)) }
     ensures fits { OnOk result ((n : ℕ) → builder.new.work.next ≤ n → IsFitting n (front_of builder.old) → IsFitting n (front_of builder.new)) }
     ensures room { OnOk result (builder.new.work.next ≤ 190) }
 {
-    let target = ask_target(alloc, link, message, scalars, builder)?;
+    let target = ask_target(alloc, link, message, builder)?;
     let below = size_of(alloc, builder.fields.as_slice(), below)?;
     let formula = overlay_formula(alloc, &target.size, &below)?;
     push_formula(formula, builder)
@@ -345,18 +326,17 @@ fn ask_overlay(
 fn ask_cover(
     alloc: Global,
     link: &Link,
-    message: &Message,
-    scalars: &[Scalar],
+    message: &Elaborated<'_>,
     builder: &mut Builder,
 ) -> Result<(), FormFault>
-    requires formable { IsFormable (limits_in scalars.now message.now) (arrow_of link.now) }
-    requires narrow { IsNarrowLink (limits_in scalars.now message.now) (arrow_of link.now) }
+    requires formable { IsFormable (limits message.now) (arrow_of link.now) }
+    requires narrow { IsNarrowLink (limits message.now) (arrow_of link.now) }
     requires room { builder.old.work.next ≤ 190 }
-    ensures gone { OnOk result (front_of builder.new ≡ behind (cover_asked (domains_in scalars.now) (graph_of message.now) None (front_of builder.old).fields builder.old.work.next (arrow_of link.now)) (front_of builder.old)) }
+    ensures gone { OnOk result (front_of builder.new ≡ behind (cover_asked message.now.domains message.now.graph None (front_of builder.old).fields builder.old.work.next (arrow_of link.now)) (front_of builder.old)) }
     ensures fits { OnOk result ((n : ℕ) → builder.new.work.next ≤ n → IsFitting n (front_of builder.old) → IsFitting n (front_of builder.new)) }
     ensures room { OnOk result (builder.new.work.next ≤ 190) }
 {
-    let first = ask_first(alloc, link, message, scalars, builder)?;
+    let first = ask_first(alloc, link, message, builder)?;
     let formula = cover_formula(alloc, builder.fields.as_slice(), &first)?;
     push_formula(formula, builder)
 }
@@ -366,18 +346,17 @@ fn ask_cover(
 fn ask_never(
     alloc: Global,
     link: &Link,
-    message: &Message,
-    scalars: &[Scalar],
+    message: &Elaborated<'_>,
     builder: &mut Builder,
 ) -> Result<(), FormFault>
-    requires formable { IsFormable (limits_in scalars.now message.now) (arrow_of link.now) }
-    requires narrow { IsNarrowLink (limits_in scalars.now message.now) (arrow_of link.now) }
+    requires formable { IsFormable (limits message.now) (arrow_of link.now) }
+    requires narrow { IsNarrowLink (limits message.now) (arrow_of link.now) }
     requires room { builder.old.work.next ≤ 190 }
-    ensures gone { OnOk result (front_of builder.new ≡ behind (asked_of (domains_in scalars.now) (graph_of message.now) (front_of builder.old).fields builder.old.work.next (arrow_of link.now ∷ []) None None (Form.Any [] ∷ []) [] 0) (front_of builder.old)) }
+    ensures gone { OnOk result (front_of builder.new ≡ behind (asked_of message.now.domains message.now.graph (front_of builder.old).fields builder.old.work.next (arrow_of link.now ∷ []) None None (Form.Any [] ∷ []) [] 0) (front_of builder.old)) }
     ensures fits { OnOk result ((n : ℕ) → builder.new.work.next ≤ n → IsFitting n (front_of builder.old) → IsFitting n (front_of builder.new)) }
     ensures room { OnOk result (builder.new.work.next ≤ 190) }
 {
-    ask_condition(alloc, link, message, scalars, builder)?;
+    ask_condition(alloc, link, message, builder)?;
     push_formula(Form::Any(Items::new(alloc)), builder)
 }
 
@@ -386,18 +365,17 @@ fn ask_never(
 fn ask_null(
     alloc: Global,
     link: &Link,
-    message: &Message,
-    scalars: &[Scalar],
+    message: &Elaborated<'_>,
     builder: &mut Builder,
 ) -> Result<(), FormFault>
-    requires formable { IsFormable (limits_in scalars.now message.now) (arrow_of link.now) }
-    requires narrow { IsNarrowLink (limits_in scalars.now message.now) (arrow_of link.now) }
+    requires formable { IsFormable (limits message.now) (arrow_of link.now) }
+    requires narrow { IsNarrowLink (limits message.now) (arrow_of link.now) }
     requires room { builder.old.work.next ≤ 190 }
-    ensures gone { OnOk result (front_of builder.new ≡ behind (asked_of (domains_in scalars.now) (graph_of message.now) (front_of builder.old).fields builder.old.work.next (arrow_of link.now ∷ []) None None (null_formula (front_of builder.old).fields ∷ []) [] 0) (front_of builder.old)) }
+    ensures gone { OnOk result (front_of builder.new ≡ behind (asked_of message.now.domains message.now.graph (front_of builder.old).fields builder.old.work.next (arrow_of link.now ∷ []) None None (null_formula (front_of builder.old).fields ∷ []) [] 0) (front_of builder.old)) }
     ensures fits { OnOk result ((n : ℕ) → builder.new.work.next ≤ n → IsFitting n (front_of builder.old) → IsFitting n (front_of builder.new)) }
     ensures room { OnOk result (builder.new.work.next ≤ 190) }
 {
-    ask_condition(alloc, link, message, scalars, builder)?;
+    ask_condition(alloc, link, message, builder)?;
     let formula = null_formula(alloc, builder.fields.as_slice())?;
     push_formula(formula, builder)
 }
@@ -407,18 +385,17 @@ fn ask_null(
 fn ask_whole(
     alloc: Global,
     link: &Link,
-    message: &Message,
-    scalars: &[Scalar],
+    message: &Elaborated<'_>,
     builder: &mut Builder,
 ) -> Result<(), FormFault>
-    requires formable { IsFormable (limits_in scalars.now message.now) (arrow_of link.now) }
-    requires narrow { IsNarrowLink (limits_in scalars.now message.now) (arrow_of link.now) }
+    requires formable { IsFormable (limits message.now) (arrow_of link.now) }
+    requires narrow { IsNarrowLink (limits message.now) (arrow_of link.now) }
     requires room { builder.old.work.next ≤ 190 }
-    ensures gone { OnOk result (front_of builder.new ≡ behind (whole_asked (domains_in scalars.now) (graph_of message.now) (front_of builder.old).fields builder.old.work.next (arrow_of link.now)) (front_of builder.old)) }
+    ensures gone { OnOk result (front_of builder.new ≡ behind (whole_asked message.now.domains message.now.graph (front_of builder.old).fields builder.old.work.next (arrow_of link.now)) (front_of builder.old)) }
     ensures fits { OnOk result ((n : ℕ) → builder.new.work.next ≤ n → IsFitting n (front_of builder.old) → IsFitting n (front_of builder.new)) }
     ensures room { OnOk result (builder.new.work.next ≤ 191) }
 {
-    ask_condition(alloc, link, message, scalars, builder)?;
+    ask_condition(alloc, link, message, builder)?;
     let end = last_end(alloc, builder.fields.as_slice())?;
     let formula = no_multiple(alloc, &end, builder.work.next)?;
     push_formula(formula, builder)?;
@@ -433,63 +410,62 @@ fn ask_cover_of(
     alloc: Global,
     link: &Link,
     field: FieldId,
-    message: &Message,
-    scalars: &[Scalar],
+    message: &Elaborated<'_>,
     builder: &mut Builder,
 ) -> Result<(), FormFault>
-    requires formable { IsFormable (limits_in scalars.now message.now) (arrow_of link.now) }
-    requires narrow { IsNarrowLink (limits_in scalars.now message.now) (arrow_of link.now) }
+    requires formable { IsFormable (limits message.now) (arrow_of link.now) }
+    requires narrow { IsNarrowLink (limits message.now) (arrow_of link.now) }
     requires room { builder.old.work.next ≤ 190 }
-    ensures gone { OnOk result (front_of builder.new ≡ behind (cover_asked (domains_in scalars.now) (graph_of message.now) (overlay_of (slice_get message.now.fields.items field)) (front_of builder.old).fields builder.old.work.next (arrow_of link.now)) (front_of builder.old)) }
+    ensures gone { OnOk result (front_of builder.new ≡ behind (cover_asked message.now.domains message.now.graph (overlay_of (slice_get message.now.graph.fields field)) (front_of builder.old).fields builder.old.work.next (arrow_of link.now)) (front_of builder.old)) }
     ensures fits { OnOk result ((n : ℕ) → builder.new.work.next ≤ n → IsFitting n (front_of builder.old) → IsFitting n (front_of builder.new)) }
     ensures room { OnOk result (builder.new.work.next ≤ 190) }
 {
-    match overlay_of(message, field) {
-        Some(_) => ask_never(alloc, link, message, scalars, builder),
-        None => ask_cover(alloc, link, message, scalars, builder),
+    match message.overlay(field) {
+        Some(_) => ask_never(alloc, link, message, builder),
+        None => ask_cover(alloc, link, message, builder),
     }
 }
 
+// What a check of covering asks of a link.
 #[tactic(none)]
 fn ask_cover_to(
     alloc: Global,
     link: &Link,
-    message: &Message,
-    scalars: &[Scalar],
+    message: &Elaborated<'_>,
     builder: &mut Builder,
 ) -> Result<(), FormFault>
-    requires formable { IsFormable (limits_in scalars.now message.now) (arrow_of link.now) }
-    requires narrow { IsNarrowLink (limits_in scalars.now message.now) (arrow_of link.now) }
+    requires formable { IsFormable (limits message.now) (arrow_of link.now) }
+    requires narrow { IsNarrowLink (limits message.now) (arrow_of link.now) }
     requires room { builder.old.work.next ≤ 190 }
-    ensures gone { OnOk result (front_of builder.new ≡ behind (asked_link (domains_in scalars.now) (graph_of message.now) LinkCheck.Cover (front_of builder.old).fields builder.old.work.next (arrow_of link.now)) (front_of builder.old)) }
+    ensures gone { OnOk result (front_of builder.new ≡ behind (asked_link message.now.domains message.now.graph LinkCheck.Cover (front_of builder.old).fields builder.old.work.next (arrow_of link.now)) (front_of builder.old)) }
     ensures fits { OnOk result ((n : ℕ) → builder.new.work.next ≤ n → IsFitting n (front_of builder.old) → IsFitting n (front_of builder.new)) }
     ensures room { OnOk result (builder.new.work.next ≤ 190) }
 {
     match link.target {
-        Node::Start => ask_taken(alloc, link, message, scalars, builder),
-        Node::At(field) => ask_cover_of(alloc, link, field, message, scalars, builder),
-        Node::Null => ask_null(alloc, link, message, scalars, builder),
+        Node::Start => ask_taken(alloc, link, message, builder),
+        Node::At(field) => ask_cover_of(alloc, link, field, message, builder),
+        Node::Null => ask_null(alloc, link, message, builder),
     }
 }
 
+// What a check of overlays asks of a link.
 #[tactic(none)]
 fn ask_overlay_of(
     alloc: Global,
     link: &Link,
-    message: &Message,
-    scalars: &[Scalar],
+    message: &Elaborated<'_>,
     builder: &mut Builder,
 ) -> Result<(), FormFault>
-    requires formable { IsFormable (limits_in scalars.now message.now) (arrow_of link.now) }
-    requires narrow { IsNarrowLink (limits_in scalars.now message.now) (arrow_of link.now) }
+    requires formable { IsFormable (limits message.now) (arrow_of link.now) }
+    requires narrow { IsNarrowLink (limits message.now) (arrow_of link.now) }
     requires room { builder.old.work.next ≤ 190 }
-    ensures gone { OnOk result (front_of builder.new ≡ behind (asked_link (domains_in scalars.now) (graph_of message.now) LinkCheck.Overlay (front_of builder.old).fields builder.old.work.next (arrow_of link.now)) (front_of builder.old)) }
+    ensures gone { OnOk result (front_of builder.new ≡ behind (asked_link message.now.domains message.now.graph LinkCheck.Overlay (front_of builder.old).fields builder.old.work.next (arrow_of link.now)) (front_of builder.old)) }
     ensures fits { OnOk result ((n : ℕ) → builder.new.work.next ≤ n → IsFitting n (front_of builder.old) → IsFitting n (front_of builder.new)) }
     ensures room { OnOk result (builder.new.work.next ≤ 190) }
 {
-    match overlay_of(message, target_field(link)) {
-        Some(below) => ask_overlay(alloc, link, below, message, scalars, builder),
-        None => ask_taken(alloc, link, message, scalars, builder),
+    match message.overlay(target_field(link)) {
+        Some(below) => ask_overlay(alloc, link, below, message, builder),
+        None => ask_taken(alloc, link, message, builder),
     }
 }
 
@@ -499,37 +475,36 @@ fn ask_link(
     alloc: Global,
     check: LinkCheck,
     link: &Link,
-    message: &Message,
-    scalars: &[Scalar],
+    message: &Elaborated<'_>,
     builder: &mut Builder,
 ) -> Result<(), FormFault>
-    requires formable { IsFormable (limits_in scalars.now message.now) (arrow_of link.now) }
-    requires narrow { IsNarrowLink (limits_in scalars.now message.now) (arrow_of link.now) }
+    requires formable { IsFormable (limits message.now) (arrow_of link.now) }
+    requires narrow { IsNarrowLink (limits message.now) (arrow_of link.now) }
     requires room { builder.old.work.next ≤ 190 }
-    requires bytes { check ≡ LinkCheck.Grid → type_of (domains_in scalars.now) (graph_of message.now) (target_field (arrow_of link.now).target) ≡ None }
-    ensures gone { OnOk result (front_of builder.new ≡ behind (asked_link (domains_in scalars.now) (graph_of message.now) check (front_of builder.old).fields builder.old.work.next (arrow_of link.now)) (front_of builder.old)) }
+    requires bytes { check ≡ LinkCheck.Grid → type_of message.now.domains message.now.graph (target_field (arrow_of link.now).target) ≡ None }
+    ensures gone { OnOk result (front_of builder.new ≡ behind (asked_link message.now.domains message.now.graph check (front_of builder.old).fields builder.old.work.next (arrow_of link.now)) (front_of builder.old)) }
     ensures fits { OnOk result ((n : ℕ) → builder.new.work.next ≤ n → IsFitting n (front_of builder.old) → IsFitting n (front_of builder.new)) }
     ensures room { OnOk result (builder.new.work.next ≤ 192) }
 {
     match check {
-        LinkCheck::Taken => ask_taken(alloc, link, message, scalars, builder),
-        LinkCheck::Position => ask_position(alloc, link, message, scalars, builder),
-        LinkCheck::Grid => ask_grid(alloc, link, message, scalars, builder),
-        LinkCheck::Overlay => ask_overlay_of(alloc, link, message, scalars, builder),
-        LinkCheck::Cover => ask_cover_to(alloc, link, message, scalars, builder),
-        LinkCheck::Whole => ask_whole(alloc, link, message, scalars, builder),
+        LinkCheck::Taken => ask_taken(alloc, link, message, builder),
+        LinkCheck::Position => ask_position(alloc, link, message, builder),
+        LinkCheck::Grid => ask_grid(alloc, link, message, builder),
+        LinkCheck::Overlay => ask_overlay_of(alloc, link, message, builder),
+        LinkCheck::Cover => ask_cover_to(alloc, link, message, builder),
+        LinkCheck::Whole => ask_whole(alloc, link, message, builder),
     }
 }
 
 // The link of a node that has a number.
-fn link_numbered(message: &Message, node: Node, number: u16) -> Option<&Link>
-    ensures none { result ≡ None → link_numbered (graph_of message.now) node number ≡ None }
-    ensures found { IfSome result (λ link. link_numbered (graph_of message.now) node number ≡ Some (arrow_of link.now)) }
-    ensures is { IfSome result (λ link. (i : ℕ) × IsLink (graph_of message.now) i (arrow_of link.now)) }
+fn link_numbered<'s>(message: &Elaborated<'s>, node: Node, number: u16) -> Option<&'s Link>
+    ensures none { result ≡ None → link_numbered message.now.graph node number ≡ None }
+    ensures found { IfSome result (λ link. link_numbered message.now.graph node number ≡ Some (arrow_of link.now)) }
+    ensures is { IfSome result (λ link. (i : ℕ) × IsLink message.now.graph i (arrow_of link.now)) }
 {
     let mut before = number.saturating_sub(1);
-    for link in message.links.as_slice() {
-        if leaves(node, link) {
+    for link in message.links() {
+        if node.is(link.source) {
             if before == 0 {
                 return Some(link);
             }
@@ -546,20 +521,18 @@ fn ask_numbered(
     check: LinkCheck,
     node: Node,
     number: u16,
-    message: &Message,
-    scalars: &[Scalar],
+    message: &Elaborated<'_>,
     builder: &mut Builder,
 ) -> Result<(), FormFault>
-    requires formable { AreFormable (limits_in scalars.now message.now) (graph_of message.now) }
-    requires narrow { AreNarrow (limits_in scalars.now message.now) (graph_of message.now) }
     requires room { builder.old.work.next ≤ 190 }
-    requires bytes { check ≡ LinkCheck.Grid → HasLink (domains_in scalars.now) (graph_of message.now) node number (LeadsToBytes (domains_in scalars.now) (graph_of message.now)) }
-    ensures gone { OnOk result (front_of builder.new ≡ behind (with_link (domains_in scalars.now) (graph_of message.now) (link_numbered (graph_of message.now) node number) (front_of builder.old).fields builder.old.work.next (λ l. asked_link (domains_in scalars.now) (graph_of message.now) check (front_of builder.old).fields builder.old.work.next l)) (front_of builder.old)) }
+    requires bytes { check ≡ LinkCheck.Grid → HasLink message.now.domains message.now.graph node number (LeadsToBytes message.now.domains message.now.graph) }
+    ensures gone { OnOk result (front_of builder.new ≡ behind (with_link message.now.domains message.now.graph (link_numbered message.now.graph node number) (front_of builder.old).fields builder.old.work.next (λ l. asked_link message.now.domains message.now.graph check (front_of builder.old).fields builder.old.work.next l)) (front_of builder.old)) }
     ensures fits { OnOk result ((n : ℕ) → builder.new.work.next ≤ n → IsFitting n (front_of builder.old) → IsFitting n (front_of builder.new)) }
     ensures room { OnOk result (builder.new.work.next ≤ 192) }
 {
+    links_have_forms(message);
     match link_numbered(message, node, number) {
-        Some(link) => ask_link(alloc, check, link, message, scalars, builder),
+        Some(link) => ask_link(alloc, check, link, message, builder),
         None => Ok(()),
     }
 }
@@ -570,19 +543,18 @@ fn ask_two(
     alloc: Global,
     one: &Link,
     other: &Link,
-    message: &Message,
-    scalars: &[Scalar],
+    message: &Elaborated<'_>,
     builder: &mut Builder,
 ) -> Result<(), FormFault>
-    requires formable { IsFormable (limits_in scalars.now message.now) (arrow_of one.now) × IsFormable (limits_in scalars.now message.now) (arrow_of other.now) }
-    requires narrow { IsNarrowLink (limits_in scalars.now message.now) (arrow_of one.now) × IsNarrowLink (limits_in scalars.now message.now) (arrow_of other.now) }
+    requires formable { IsFormable (limits message.now) (arrow_of one.now) × IsFormable (limits message.now) (arrow_of other.now) }
+    requires narrow { IsNarrowLink (limits message.now) (arrow_of one.now) × IsNarrowLink (limits message.now) (arrow_of other.now) }
     requires room { builder.old.work.next ≤ 190 }
-    ensures gone { OnOk result (front_of builder.new ≡ behind (taken_asked (domains_in scalars.now) (graph_of message.now) (front_of builder.old).fields builder.old.work.next (arrow_of one.now ∷ arrow_of other.now ∷ [])) (front_of builder.old)) }
+    ensures gone { OnOk result (front_of builder.new ≡ behind (taken_asked message.now.domains message.now.graph (front_of builder.old).fields builder.old.work.next (arrow_of one.now ∷ arrow_of other.now ∷ [])) (front_of builder.old)) }
     ensures fits { OnOk result ((n : ℕ) → builder.new.work.next ≤ n → IsFitting n (front_of builder.old) → IsFitting n (front_of builder.new)) }
     ensures room { OnOk result (builder.new.work.next ≤ 190) }
 {
-    ask_condition(alloc, one, message, scalars, builder)?;
-    ask_condition(alloc, other, message, scalars, builder)
+    ask_condition(alloc, one, message, builder)?;
+    ask_condition(alloc, other, message, builder)
 }
 
 // A link is taken, and that of a node with a number, nothing where there is none.
@@ -592,20 +564,18 @@ fn ask_other(
     one: &Link,
     node: Node,
     number: u16,
-    message: &Message,
-    scalars: &[Scalar],
+    message: &Elaborated<'_>,
     builder: &mut Builder,
 ) -> Result<(), FormFault>
-    requires link { (i : ℕ) × IsLink (graph_of message.now) i (arrow_of one.now) }
-    requires formable { AreFormable (limits_in scalars.now message.now) (graph_of message.now) }
-    requires narrow { AreNarrow (limits_in scalars.now message.now) (graph_of message.now) }
+    requires link { (i : ℕ) × IsLink message.now.graph i (arrow_of one.now) }
     requires room { builder.old.work.next ≤ 190 }
-    ensures gone { OnOk result (front_of builder.new ≡ behind (with_link (domains_in scalars.now) (graph_of message.now) (link_numbered (graph_of message.now) node number) (front_of builder.old).fields builder.old.work.next (λ k. taken_asked (domains_in scalars.now) (graph_of message.now) (front_of builder.old).fields builder.old.work.next (arrow_of one.now ∷ k ∷ []))) (front_of builder.old)) }
+    ensures gone { OnOk result (front_of builder.new ≡ behind (with_link message.now.domains message.now.graph (link_numbered message.now.graph node number) (front_of builder.old).fields builder.old.work.next (λ k. taken_asked message.now.domains message.now.graph (front_of builder.old).fields builder.old.work.next (arrow_of one.now ∷ k ∷ []))) (front_of builder.old)) }
     ensures fits { OnOk result ((n : ℕ) → builder.new.work.next ≤ n → IsFitting n (front_of builder.old) → IsFitting n (front_of builder.new)) }
     ensures room { OnOk result (builder.new.work.next ≤ 192) }
 {
+    links_have_forms(message);
     match link_numbered(message, node, number) {
-        Some(other) => ask_two(alloc, one, other, message, scalars, builder),
+        Some(other) => ask_two(alloc, one, other, message, builder),
         None => Ok(()),
     }
 }
@@ -617,19 +587,16 @@ fn ask_both(
     node: Node,
     one: u16,
     other: u16,
-    message: &Message,
-    scalars: &[Scalar],
+    message: &Elaborated<'_>,
     builder: &mut Builder,
 ) -> Result<(), FormFault>
-    requires formable { AreFormable (limits_in scalars.now message.now) (graph_of message.now) }
-    requires narrow { AreNarrow (limits_in scalars.now message.now) (graph_of message.now) }
     requires room { builder.old.work.next ≤ 190 }
-    ensures gone { OnOk result (front_of builder.new ≡ behind (asked_by (domains_in scalars.now) (graph_of message.now) (Goal.Exclusive node one other) (front_of builder.old).fields builder.old.work.next) (front_of builder.old)) }
+    ensures gone { OnOk result (front_of builder.new ≡ behind (asked_by message.now.domains message.now.graph (Goal.Exclusive node one other) (front_of builder.old).fields builder.old.work.next) (front_of builder.old)) }
     ensures fits { OnOk result ((n : ℕ) → builder.new.work.next ≤ n → IsFitting n (front_of builder.old) → IsFitting n (front_of builder.new)) }
     ensures room { OnOk result (builder.new.work.next ≤ 192) }
 {
     match link_numbered(message, node, one) {
-        Some(link) => ask_other(alloc, link, node, other, message, scalars, builder),
+        Some(link) => ask_other(alloc, link, node, other, message, builder),
         None => Ok(()),
     }
 }
@@ -639,25 +606,20 @@ fn ask_both(
 pub fn ask(
     alloc: Global,
     goal: &Goal,
-    message: &Message,
-    scalars: &[Scalar],
+    message: &Elaborated<'_>,
     builder: &mut Builder,
 ) -> Result<(), FormFault>
-    requires formable { AreFormable (limits_in scalars.now message.now) (graph_of message.now) }
-    requires narrow { AreNarrow (limits_in scalars.now message.now) (graph_of message.now) }
     requires room { builder.old.work.next ≤ 190 }
-    requires goal { IsGoal (domains_in scalars.now) (graph_of message.now) goal.now }
-    ensures gone { OnOk result (front_of builder.new ≡ behind (asked_by (domains_in scalars.now) (graph_of message.now) goal.now (front_of builder.old).fields builder.old.work.next) (front_of builder.old)) }
+    requires goal { IsGoal message.now.domains message.now.graph goal.now }
+    ensures gone { OnOk result (front_of builder.new ≡ behind (asked_by message.now.domains message.now.graph goal.now (front_of builder.old).fields builder.old.work.next) (front_of builder.old)) }
     ensures fits { OnOk result ((n : ℕ) → builder.new.work.next ≤ n → IsFitting n (front_of builder.old) → IsFitting n (front_of builder.new)) }
     ensures room { OnOk result (builder.new.work.next ≤ 192) }
 {
     match subject_of(goal) {
-        Subject::Links(node, one, other) => {
-            ask_both(alloc, node, one, other, message, scalars, builder)
-        }
+        Subject::Links(node, one, other) => { ask_both(alloc, node, one, other, message, builder) }
         Subject::Field(_) => Ok(()),
         Subject::Link(check, node, number) => {
-            ask_numbered(alloc, check, node, number, message, scalars, builder)
+            ask_numbered(alloc, check, node, number, message, builder)
         }
     }
 }

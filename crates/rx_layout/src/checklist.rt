@@ -1,17 +1,13 @@
 //! The goals of a message.
 
 ghost use Rattle.std.specs.Prelude.{◌≡◌, List, [], ◌∷◌, ◌++◌, ◌+◌, ◌≤◌, length, drop, slice_get, if◌then◌else◌, IfOk, OnOk};
-ghost use Rattle.rx_graph.specs.Checks.{is_node};
-ghost use Rattle.rx_graph.specs.Elaborated.{IsElaborated};
 ghost use Rattle.rx_types.specs.Domain.{Domain};
-ghost use Rattle.rx_graph.specs.Graph.{Arrow, Graph, arrow_of, domains_of, graph_of, type_of, overlay_of};
-ghost use Rattle.rx_forms.specs.Code.{domains_in};
+ghost use Rattle.rx_graph.specs.Graph.{Arrow, Graph, type_of, overlay_of};
 ghost use Rattle.rx_layout.specs.Listed.{all_goals, is_absent, is_present, is_checked, goal_of, goal_on, links_at, checks_from, checks_of, pairs_with, pairs_from, pairs_of, reached_from};
 
 use crate::fault::NoMemory;
 use crate::goal::Goal;
-use rx_forms::scalar_type;
-use rx_graph::{Field, Link, Message, Node, Scalar, Spec};
+use rx_graph::{Elaborated, Field, Node};
 use rx_types::FieldId;
 use std::alloc::Global;
 
@@ -55,43 +51,43 @@ pub fn subject_of(goal: &Goal) -> Subject
 // ---- the checks of one link
 
 // Whether a field is one of bytes.
-fn is_bytes(message: &Message, scalars: &[Scalar], field: FieldId) -> bool
-    ensures { result ≡ is_absent (type_of (domains_in scalars.now) (graph_of message.now) field) }
+fn is_bytes(message: &Elaborated<'_>, field: FieldId) -> bool
+    ensures { result ≡ is_absent (type_of message.now.domains message.now.graph field) }
 {
-    match scalar_type(message, scalars, field) {
+    match message.scalar(field) {
         Some(_) => false,
         None => true,
     }
 }
 
 // Whether a field lies over another.
-fn is_laid_over(message: &Message, field: FieldId) -> bool
-    ensures { result ≡ is_present (overlay_of (slice_get message.now.fields.items field)) }
+fn is_laid_over(message: &Elaborated<'_>, field: FieldId) -> bool
+    ensures { result ≡ is_present (overlay_of (slice_get message.now.graph.fields field)) }
 {
-    match message.fields.get(field as usize) {
-        Some(field) => field.overlay.is_some(),
+    match message.overlay(field) {
+        Some(_) => true,
         None => false,
     }
 }
 
 // Whether a link into a field has this check.
-fn is_checked_into(check: LinkCheck, field: FieldId, message: &Message, scalars: &[Scalar]) -> bool
-    ensures { result ≡ is_checked (domains_in scalars.now) (graph_of message.now) check (Node.At field) }
+fn is_checked_into(check: LinkCheck, field: FieldId, message: &Elaborated<'_>) -> bool
+    ensures { result ≡ is_checked message.now.domains message.now.graph check (Node.At field) }
 {
     match check {
         LinkCheck::Taken | LinkCheck::Cover | LinkCheck::Position => true,
-        LinkCheck::Grid => is_bytes(message, scalars, field),
+        LinkCheck::Grid => is_bytes(message, field),
         LinkCheck::Overlay => is_laid_over(message, field),
         LinkCheck::Whole => false,
     }
 }
 
 // Whether a link to a target has this check.
-fn is_checked(check: LinkCheck, target: Node, message: &Message, scalars: &[Scalar]) -> bool
-    ensures { result ≡ is_checked (domains_in scalars.now) (graph_of message.now) check target }
+fn is_checked(check: LinkCheck, target: Node, message: &Elaborated<'_>) -> bool
+    ensures { result ≡ is_checked message.now.domains message.now.graph check target }
 {
     match target {
-        Node::At(field) => is_checked_into(check, field, message, scalars),
+        Node::At(field) => is_checked_into(check, field, message),
         Node::Start => matches!(check, LinkCheck::Taken | LinkCheck::Cover),
         Node::Null => matches!(
             check,
@@ -100,6 +96,7 @@ fn is_checked(check: LinkCheck, target: Node, message: &Message, scalars: &[Scal
     }
 }
 
+// The goal of a link that has this check.
 fn goal_of(check: LinkCheck, node: Node, number: u16) -> Goal
     ensures { result ≡ goal_of check node number }
 {
@@ -119,45 +116,30 @@ fn add_check(
     node: Node,
     number: u16,
     target: Node,
-    message: &Message,
-    scalars: &[Scalar],
+    message: &Elaborated<'_>,
     goals: &mut Vec<Goal>,
 ) -> Result<(), NoMemory>
-    ensures { OnOk result (goals.new.items ≡ goals.old.items ++ (if is_checked (domains_in scalars.now) (graph_of message.now) check target then goal_of check node number ∷ [] else [])) }
+    ensures { OnOk result (goals.new.items ≡ goals.old.items ++ (if is_checked message.now.domains message.now.graph check target then goal_of check node number ∷ [] else [])) }
 {
-    if is_checked(check, target, message, scalars) {
+    if is_checked(check, target, message) {
         goals.push(goal_of(check, node, number))?;
     }
     Ok(())
-}
-
-/// Whether a link leads from a node.
-pub fn leaves(node: Node, link: &Link) -> bool
-    ensures { result ≡ is_node node (arrow_of link.now).source }
-{
-    match (node, link.source) {
-        (Node::Start, Node::Start) => true,
-        (Node::At(one), Node::At(other)) => one == other,
-        (Node::Null, Node::Null) => true,
-        _ => false,
-    }
 }
 
 // Adds the goals of the links of a node that have this check.
 fn add_checks_at(
     check: LinkCheck,
     node: Node,
-    message: &Message,
-    scalars: &[Scalar],
+    message: &Elaborated<'_>,
     goals: &mut Vec<Goal>,
 ) -> Result<(), NoMemory>
-    requires few { length message.now.links.items ≤ 512 }
-    ensures { OnOk result (goals.new.items ≡ goals.old.items ++ checks_from (domains_in scalars.now) (graph_of message.now) check node 1 (links_at (graph_of message.now) node)) }
+    ensures { OnOk result (goals.new.items ≡ goals.old.items ++ checks_from message.now.domains message.now.graph check node 1 (links_at message.now.graph node)) }
 {
     let mut number = 1;
-    for link in message.links.as_slice() {
-        if leaves(node, link) {
-            add_check(check, node, number, link.target, message, scalars, goals)?;
+    for link in message.links() {
+        if node.is(link.source) {
+            add_check(check, node, number, link.target, message, goals)?;
             number += 1;
         }
     }
@@ -167,17 +149,14 @@ fn add_checks_at(
 // Adds the goals of all links that have this check.
 fn add_checks(
     check: LinkCheck,
-    message: &Message,
-    scalars: &[Scalar],
+    message: &Elaborated<'_>,
     goals: &mut Vec<Goal>,
 ) -> Result<(), NoMemory>
-    requires few { length message.now.links.items ≤ 512 }
-    requires fields { length message.now.fields.items ≤ 128 }
-    ensures { OnOk result (goals.new.items ≡ goals.old.items ++ checks_of (domains_in scalars.now) (graph_of message.now) check) }
+    ensures { OnOk result (goals.new.items ≡ goals.old.items ++ checks_of message.now.domains message.now.graph check) }
 {
-    add_checks_at(check, Node::Start, message, scalars, goals)?;
-    for field in 0..message.fields.len() {
-        add_checks_at(check, Node::At(field as FieldId), message, scalars, goals)?;
+    add_checks_at(check, Node::Start, message, goals)?;
+    for field in 0..message.fields().len() {
+        add_checks_at(check, Node::At(field as FieldId), message, goals)?;
     }
     Ok(())
 }
@@ -185,14 +164,13 @@ fn add_checks(
 // ---- two links, and fields
 
 // How many links a node has.
-fn links_from(node: Node, message: &Message) -> u16
-    requires few { length message.now.links.items ≤ 512 }
-    ensures value { result ≡ length (links_at (graph_of message.now) node) }
+fn links_from(node: Node, message: &Elaborated<'_>) -> u16
+    ensures value { result ≡ length (links_at message.now.graph node) }
     ensures few { result ≤ 512 }
 {
     let mut count = 0;
-    for link in message.links.as_slice() {
-        if leaves(node, link) {
+    for link in message.links() {
+        if node.is(link.source) {
             count += 1;
         }
     }
@@ -222,22 +200,19 @@ fn add_pairs_from(node: Node, count: u16, goals: &mut Vec<Goal>) -> Result<(), N
 }
 
 // Adds each two links of a node.
-fn add_pairs_at(node: Node, message: &Message, goals: &mut Vec<Goal>) -> Result<(), NoMemory>
-    requires few { length message.now.links.items ≤ 512 }
-    ensures { OnOk result ((domains : List Domain) (m : Graph) → goals.new.items ≡ goals.old.items ++ pairs_from domains m node 1 (links_at (graph_of message.now) node)) }
+fn add_pairs_at(node: Node, message: &Elaborated<'_>, goals: &mut Vec<Goal>) -> Result<(), NoMemory>
+    ensures { OnOk result ((domains : List Domain) (m : Graph) → goals.new.items ≡ goals.old.items ++ pairs_from domains m node 1 (links_at message.now.graph node)) }
 {
     let count = links_from(node, message);
     add_pairs_from(node, count, goals)
 }
 
 // Adds each two links of all nodes.
-fn add_pairs(message: &Message, goals: &mut Vec<Goal>) -> Result<(), NoMemory>
-    requires few { length message.now.links.items ≤ 512 }
-    requires fields { length message.now.fields.items ≤ 128 }
-    ensures { OnOk result ((domains : List Domain) → goals.new.items ≡ goals.old.items ++ pairs_of domains (graph_of message.now)) }
+fn add_pairs(message: &Elaborated<'_>, goals: &mut Vec<Goal>) -> Result<(), NoMemory>
+    ensures { OnOk result ((domains : List Domain) → goals.new.items ≡ goals.old.items ++ pairs_of domains message.now.graph) }
 {
     add_pairs_at(Node::Start, message, goals)?;
-    for field in 0..message.fields.len() {
+    for field in 0..message.fields().len() {
         add_pairs_at(Node::At(field as FieldId), message, goals)?;
     }
     Ok(())
@@ -257,36 +232,31 @@ fn add_reached(fields: &[Field], goals: &mut Vec<Goal>) -> Result<(), NoMemory>
 // ---- all
 
 // Adds the goals of all links that have one of these checks, one check after the other.
-fn add_places(message: &Message, scalars: &[Scalar], goals: &mut Vec<Goal>) -> Result<(), NoMemory>
-    requires few { length message.now.links.items ≤ 512 }
-    requires fields { length message.now.fields.items ≤ 128 }
-    ensures { OnOk result (goals.new.items ≡ goals.old.items ++ (checks_of (domains_in scalars.now) (graph_of message.now) LinkCheck.Position ++ (checks_of (domains_in scalars.now) (graph_of message.now) LinkCheck.Grid ++ (checks_of (domains_in scalars.now) (graph_of message.now) LinkCheck.Overlay ++ (checks_of (domains_in scalars.now) (graph_of message.now) LinkCheck.Cover ++ checks_of (domains_in scalars.now) (graph_of message.now) LinkCheck.Whole))))) }
+fn add_places(message: &Elaborated<'_>, goals: &mut Vec<Goal>) -> Result<(), NoMemory>
+    ensures { OnOk result (goals.new.items ≡ goals.old.items ++ (checks_of message.now.domains message.now.graph LinkCheck.Position ++ (checks_of message.now.domains message.now.graph LinkCheck.Grid ++ (checks_of message.now.domains message.now.graph LinkCheck.Overlay ++ (checks_of message.now.domains message.now.graph LinkCheck.Cover ++ checks_of message.now.domains message.now.graph LinkCheck.Whole))))) }
 {
-    add_checks(LinkCheck::Position, message, scalars, goals)?;
-    add_checks(LinkCheck::Grid, message, scalars, goals)?;
-    add_checks(LinkCheck::Overlay, message, scalars, goals)?;
-    add_checks(LinkCheck::Cover, message, scalars, goals)?;
-    add_checks(LinkCheck::Whole, message, scalars, goals)
+    add_checks(LinkCheck::Position, message, goals)?;
+    add_checks(LinkCheck::Grid, message, goals)?;
+    add_checks(LinkCheck::Overlay, message, goals)?;
+    add_checks(LinkCheck::Cover, message, goals)?;
+    add_checks(LinkCheck::Whole, message, goals)
 }
 
-/// Adds all goals of a message, in order.
-pub fn add_all(message: &Message, scalars: &[Scalar], goals: &mut Vec<Goal>) -> Result<(), NoMemory>
-    requires few { length message.now.links.items ≤ 512 }
-    requires fields { length message.now.fields.items ≤ 128 }
-    ensures { OnOk result (goals.new.items ≡ goals.old.items ++ all_goals (domains_in scalars.now) (graph_of message.now)) }
+// Adds all goals of a message, in order.
+fn add_all(message: &Elaborated<'_>, goals: &mut Vec<Goal>) -> Result<(), NoMemory>
+    ensures { OnOk result (goals.new.items ≡ goals.old.items ++ all_goals message.now.domains message.now.graph) }
 {
     add_pairs(message, goals)?;
-    add_checks(LinkCheck::Taken, message, scalars, goals)?;
-    add_reached(message.fields.as_slice(), goals)?;
-    add_places(message, scalars, goals)
+    add_checks(LinkCheck::Taken, message, goals)?;
+    add_reached(message.fields(), goals)?;
+    add_places(message, goals)
 }
 
 /// All goals of a message, in the order in which they are reported.
-pub fn goals(alloc: Global, message: &Message, spec: &Spec) -> Result<Vec<Goal>, NoMemory>
-    requires { IsElaborated (domains_of spec.now) (graph_of message.now) }
-    ensures { IfOk result (λ goals. goals.items ≡ all_goals (domains_of spec.now) (graph_of message.now)) }
+pub fn goals(alloc: Global, message: &Elaborated<'_>) -> Result<Vec<Goal>, NoMemory>
+    ensures { IfOk result (λ goals. goals.items ≡ all_goals message.now.domains message.now.graph) }
 {
     let mut goals = Vec::new(alloc);
-    add_all(message, spec.scalars.as_slice(), &mut goals)?;
+    add_all(message, &mut goals)?;
     Ok(goals)
 }

@@ -1,20 +1,20 @@
 //! Facts of the fields of a path: their types, their places and the fields below them.
 
-ghost use Rattle.std.specs.Prelude.{◌≡◌, [], ◌∷◌, ◌++◌, map, slice_get, Option, Some, None, IfOk, OnOk};
-ghost use Rattle.rx_types.specs.Domain.{size_of};
-ghost use Rattle.rx_graph.specs.Graph.{graph_of, type_of, overlay_of};
+ghost use Rattle.std.specs.Prelude.{◌≡◌, [], ◌∷◌, ◌++◌, map, Some, None, IfOk, OnOk};
+ghost use Rattle.rx_graph.specs.Graph.{type_of};
 ghost use Rattle.rx_forms.specs.Linear.{equal, minus};
-ghost use Rattle.rx_forms.specs.Normal.{formed_of, bits};
-ghost use Rattle.rx_forms.specs.Steps.{is_among, same_form};
-ghost use Rattle.rx_forms.specs.Code.{domains_in, formed_all, number_by};
-ghost use Rattle.rx_layout.specs.Made.{placed, as_long, HasSmallTypes, typed_field, laid_over, laid, laid_from};
+ghost use Rattle.rx_forms.specs.Normal.{bits};
+ghost use Rattle.rx_forms.specs.Steps.{is_among};
+ghost use Rattle.rx_forms.specs.Code.{formed_all};
+ghost use Rattle.rx_layout.specs.Made.{placed, as_long, typed_field, laid_over, laid, laid_from};
 ghost use Rattle.rx_layout.specs.QueryOf.{rows};
 
+use crate::laws::types_are_proper;
 use crate::types::type_form;
 use rx_forms::{
-    FieldForms, Form, FormFault, Linear, bits, copy, minus, scalar_type, variable_form, variable_of,
+    FieldForms, Form, FormFault, Linear, bits, copy, minus, variable_form, variable_of,
 };
-use rx_graph::{Message, Scalar};
+use rx_graph::Elaborated;
 use rx_types::FieldId;
 use sqlite_items::Items;
 use std::alloc::Global;
@@ -28,16 +28,16 @@ fn always(alloc: Global) -> Form
 
 // ---- types
 
+// The fact that a field has a number of its type.
 fn field_type(
     alloc: Global,
     field: &FieldForms,
-    message: &Message,
-    scalars: &[Scalar],
+    message: &Elaborated<'_>,
 ) -> Result<Form, FormFault>
-    requires { HasSmallTypes (domains_in scalars.now) (graph_of message.now) }
-    ensures { IfOk result (λ f. f ≡ typed_field (domains_in scalars.now) (graph_of message.now) field.now) }
+    ensures { IfOk result (λ f. f ≡ typed_field message.now.domains message.now.graph field.now) }
 {
-    let Some(scalar) = scalar_type(message, scalars, field.field) else {
+    types_are_proper(message);
+    let Some(scalar) = message.scalar(field.field) else {
         return Ok(always(alloc));
     };
     match field.variable {
@@ -50,15 +50,13 @@ fn field_type(
 pub fn add_types(
     alloc: Global,
     fields: &[FieldForms],
-    message: &Message,
-    scalars: &[Scalar],
+    message: &Elaborated<'_>,
     forms: &mut Items<Form>,
 ) -> Result<(), FormFault>
-    requires { HasSmallTypes (domains_in scalars.now) (graph_of message.now) }
-    ensures { OnOk result (forms.new ≡ forms.old ++ map (typed_field (domains_in scalars.now) (graph_of message.now)) fields.now) }
+    ensures { OnOk result (forms.new ≡ forms.old ++ map (typed_field message.now.domains message.now.graph) fields.now) }
 {
     for field in fields {
-        let form = field_type(alloc, field, message, scalars)?;
+        let form = field_type(alloc, field, message)?;
         forms.push(form)?;
     }
     Ok(())
@@ -83,6 +81,7 @@ fn push_row(forms: &mut Items<Form>, row: Linear) -> Result<(), FormFault>
     Ok(())
 }
 
+// The fact that a field lies within the message.
 fn place(alloc: Global, field: &FieldForms) -> Result<Form, FormFault>
     ensures { IfOk result (λ f. f ≡ placed field.now) }
 {
@@ -150,13 +149,13 @@ fn equal(alloc: Global, left: &Linear, right: &Linear) -> Result<Form, FormFault
 }
 
 // Whether a field is a scalar, and has the size of another one that is a scalar too.
-fn is_as_long(field: FieldId, other: FieldId, message: &Message, scalars: &[Scalar]) -> bool
-    ensures { result ≡ as_long (type_of (domains_in scalars.now) (graph_of message.now) field) (type_of (domains_in scalars.now) (graph_of message.now) other) }
+fn is_as_long(field: FieldId, other: FieldId, message: &Elaborated<'_>) -> bool
+    ensures { result ≡ as_long (type_of message.now.domains message.now.graph field) (type_of message.now.domains message.now.graph other) }
 {
-    let Some(scalar) = scalar_type(message, scalars, field) else {
+    let Some(scalar) = message.scalar(field) else {
         return false;
     };
-    match scalar_type(message, scalars, other) {
+    match message.scalar(other) {
         Some(below) => scalar.size() == below.size(),
         None => false,
     }
@@ -168,12 +167,11 @@ fn lay_over(
     field: &FieldForms,
     below: FieldId,
     before: &[FieldForms],
-    message: &Message,
-    scalars: &[Scalar],
+    message: &Elaborated<'_>,
 ) -> Result<Form, FormFault>
-    ensures { IfOk result (λ f. f ≡ laid_over (domains_in scalars.now) (graph_of message.now) (Some below) before.now field.now) }
+    ensures { IfOk result (λ f. f ≡ laid_over message.now.domains message.now.graph (Some below) before.now field.now) }
 {
-    if !is_as_long(field.field, below, message, scalars) || !is_among(below, before) {
+    if !is_as_long(field.field, below, message) || !is_among(below, before) {
         return Ok(always(alloc));
     }
     let number = variable_form(alloc, field.variable)?;
@@ -181,27 +179,17 @@ fn lay_over(
     equal(alloc, &number, &other)
 }
 
-/// The field that a field lies over, if any.
-pub fn overlay_of(message: &Message, field: FieldId) -> Option<FieldId>
-    ensures { result ≡ overlay_of (slice_get message.now.fields.items field) }
-{
-    match message.fields.get(field as usize) {
-        Some(field) => field.overlay,
-        None => None,
-    }
-}
-
+// A field over the one below it, if there is one.
 fn lay(
     alloc: Global,
     field: &FieldForms,
     before: &[FieldForms],
-    message: &Message,
-    scalars: &[Scalar],
+    message: &Elaborated<'_>,
 ) -> Result<Form, FormFault>
-    ensures { IfOk result (λ f. f ≡ laid (domains_in scalars.now) (graph_of message.now) before.now field.now) }
+    ensures { IfOk result (λ f. f ≡ laid message.now.domains message.now.graph before.now field.now) }
 {
-    match overlay_of(message, field.field) {
-        Some(below) => lay_over(alloc, field, below, before, message, scalars),
+    match message.overlay(field.field) {
+        Some(below) => lay_over(alloc, field, below, before, message),
         None => Ok(always(alloc)),
     }
 }
@@ -210,14 +198,13 @@ fn lay(
 pub fn add_overlays(
     alloc: Global,
     fields: &[FieldForms],
-    message: &Message,
-    scalars: &[Scalar],
+    message: &Elaborated<'_>,
     forms: &mut Items<Form>,
 ) -> Result<(), FormFault>
-    ensures { OnOk result (forms.new ≡ forms.old ++ laid_from (domains_in scalars.now) (graph_of message.now) [] fields.now) }
+    ensures { OnOk result (forms.new ≡ forms.old ++ laid_from message.now.domains message.now.graph [] fields.now) }
 {
     for place in 0..fields.len() {
-        let form = lay(alloc, &fields[place], &fields[..place], message, scalars)?;
+        let form = lay(alloc, &fields[place], &fields[..place], message)?;
         forms.push(form)?;
     }
     Ok(())

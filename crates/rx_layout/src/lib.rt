@@ -20,4 +20,4 @@ pub use laws::{
     queries_are_even,
 };
 pub use parts::{Parts, query_of_form};
-pub use querying::query;
+pub use querying::{path_query, query};

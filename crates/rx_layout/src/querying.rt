@@ -1,19 +1,18 @@
 //! The query of a path and a goal.
 
-ghost use Rattle.std.specs.Prelude.{◌≡◌, ℕ, ◌≤◌, ◌<◌, Some, IfOk, OnOk, slice_get};
+ghost use Rattle.std.specs.Prelude.{◌≡◌, ℕ, ◌≤◌, ◌<◌, Some, IfOk, slice_get};
 ghost use Rattle.rx_types.specs.Domain.{Domain, boolean};
 ghost use Rattle.rx_graph.specs.declared.message.Node.TheVariants.{Start};
 ghost use Rattle.rx_graph.specs.Cycles.{IsPath};
 ghost use Rattle.rx_graph.specs.Elaborated.{IsElaborated};
 ghost use Rattle.rx_graph.specs.Graph.{domains_of, graph_of};
-ghost use Rattle.rx_forms.specs.Steps.{links_on, scalars_on, AreFormable, AreNarrow};
+ghost use Rattle.rx_forms.specs.Steps.{links_on, scalars_on};
 ghost use Rattle.rx_forms.specs.Gathered.{into_fields};
-ghost use Rattle.rx_forms.specs.Code.{domains_in, limits_in};
-ghost use Rattle.rx_forms.specs.Fronts.{front_of, first_front, after_links};
+ghost use Rattle.rx_forms.specs.Fronts.{front_of};
 ghost use Rattle.rx_forms.specs.PathLimit.{KeepsLimit};
 ghost use Rattle.rx_layout.specs.Fitting.{IsFitting};
 ghost use Rattle.rx_layout.specs.Goals.{source, IsGoal};
-ghost use Rattle.rx_layout.specs.Made.{HasSmallTypes, HasProperTypes, behind_path, gathered_form};
+ghost use Rattle.rx_layout.specs.Made.{behind_path, gathered_form};
 ghost use Rattle.rx_layout.specs.Parts.{query_of, parts_of};
 ghost use Rattle.rx_layout.specs.QueryOf.{query_for};
 
@@ -21,10 +20,13 @@ use crate::asked::ask;
 use crate::fault::NoMemory;
 use crate::fields::{add_overlays, add_places, add_types, rows_form};
 use crate::goal::Goal;
+use crate::laws::types_are_proper;
 use crate::parts::query_of_form;
 use crate::types::between;
-use rx_forms::{Builder, Form, FormFault, gather_fields, scalars_along, start};
-use rx_graph::{Message, Path, Scalar, Spec};
+use rx_forms::{
+    Builder, Checkable, Form, FormFault, gather_fields, links_have_forms, scalars_along, start,
+};
+use rx_graph::{Elaborated, Message, Path, Spec};
 use rx_proof::Query;
 use sqlite_items::Items;
 use std::alloc::Global;
@@ -36,21 +38,19 @@ fn gather(
     count: usize,
     path: &[u16],
     goal: &Goal,
-    message: &Message,
-    scalars: &[Scalar],
+    message: &Elaborated<'_>,
 ) -> Result<Builder, FormFault>
-    requires formable { AreFormable (limits_in scalars.now message.now) (graph_of message.now) }
-    requires narrow { AreNarrow (limits_in scalars.now message.now) (graph_of message.now) }
-    requires goal { IsGoal (domains_in scalars.now) (graph_of message.now) goal.now }
-    requires count { count ≡ scalars_on (domains_in scalars.now) (graph_of message.now) (into_fields (links_on (domains_in scalars.now) (graph_of message.now) path.now)) }
+    requires goal { IsGoal message.now.domains message.now.graph goal.now }
+    requires count { count ≡ scalars_on message.now.domains message.now.graph (into_fields (links_on message.now.domains message.now.graph path.now)) }
     requires few { count < 190 }
-    ensures gone { IfOk result (λ b. front_of b ≡ behind_path (domains_in scalars.now) (graph_of message.now) path.now goal.now) }
+    ensures gone { IfOk result (λ b. front_of b ≡ behind_path message.now.domains message.now.graph path.now goal.now) }
     ensures room { IfOk result (λ b. b.work.next ≤ 192) }
     ensures fits { IfOk result (λ b. (n : ℕ) → b.work.next ≤ n → IsFitting n (front_of b)) }
 {
+    links_have_forms(message);
     let mut builder = start(alloc, count);
-    gather_fields(alloc, path, message, scalars, &mut builder)?;
-    ask(alloc, goal, message, scalars, &mut builder)?;
+    gather_fields(alloc, path, message, &mut builder)?;
+    ask(alloc, goal, message, &mut builder)?;
     Ok(builder)
 }
 
@@ -58,19 +58,17 @@ fn gather(
 fn gathered_form(
     alloc: Global,
     builder: Builder,
-    message: &Message,
-    scalars: &[Scalar],
+    message: &Elaborated<'_>,
 ) -> Result<Form, FormFault>
-    requires { HasSmallTypes (domains_in scalars.now) (graph_of message.now) }
-    ensures { IfOk result (λ f. f ≡ gathered_form (domains_in scalars.now) (graph_of message.now) builder) }
+    ensures { IfOk result (λ f. f ≡ gathered_form message.now.domains message.now.graph builder) }
 {
     let mut forms = Items::new(alloc);
     let fields = builder.fields.as_slice();
-    add_types(alloc, fields, message, scalars, &mut forms)?;
+    add_types(alloc, fields, message, &mut forms)?;
     let length = between(alloc, 0, 16_777_215, 0)?;
     forms.push(length)?;
     add_places(alloc, fields, &mut forms)?;
-    add_overlays(alloc, fields, message, scalars, &mut forms)?;
+    add_overlays(alloc, fields, message, &mut forms)?;
     let divisions = rows_form(alloc, builder.work.rows.as_slice())?;
     forms.append(builder.conditions)?;
     forms.push(divisions)?;
@@ -82,17 +80,15 @@ fn gathered_form(
 fn gathered_query(
     alloc: Global,
     builder: Builder,
-    message: &Message,
-    scalars: &[Scalar],
+    message: &Elaborated<'_>,
 ) -> Result<Query, NoMemory>
-    requires types { HasSmallTypes (domains_in scalars.now) (graph_of message.now) }
-    requires proper { HasProperTypes (domains_in scalars.now) (graph_of message.now) }
     requires room { builder.work.next ≤ 192 }
     requires fits { (n : ℕ) → builder.work.next ≤ n → IsFitting n (front_of builder) }
-    ensures { IfOk result (λ q. q ≡ query_of builder.work.next (parts_of builder.work.next (gathered_form (domains_in scalars.now) (graph_of message.now) builder))) }
+    ensures { IfOk result (λ q. q ≡ query_of builder.work.next (parts_of builder.work.next (gathered_form message.now.domains message.now.graph builder))) }
 {
+    types_are_proper(message);
     let variables = builder.work.next;
-    match gathered_form(alloc, builder, message, scalars) {
+    match gathered_form(alloc, builder, message) {
         Ok(form) => query_of_form(alloc, variables, &form),
         Err(_) => Err(NoMemory),
     }
@@ -102,23 +98,21 @@ fn gathered_query(
 #[tactic(none)]
 fn query_with(
     alloc: Global,
-    message: &Message,
-    scalars: &[Scalar],
+    message: &Elaborated<'_>,
     path: &[u16],
     goal: &Goal,
 ) -> Result<Query, NoMemory>
-    requires elaborated { IsElaborated (domains_in scalars.now) (graph_of message.now) }
-    requires boolean { (d : Domain) → slice_get (domains_in scalars.now) 0 ≡ Some d → d ≡ boolean }
-    requires goal { IsGoal (domains_in scalars.now) (graph_of message.now) goal.now }
-    requires path { IsPath (graph_of message.now) Start path.now (source goal.now) }
-    ensures { IfOk result (λ query. query ≡ query_for (domains_in scalars.now) (graph_of message.now) goal.now path.now) }
+    requires goal { IsGoal message.now.domains message.now.graph goal.now }
+    requires path { IsPath message.now.graph Start path.now (source goal.now) }
+    ensures { IfOk result (λ query. query ≡ query_for message.now.domains message.now.graph goal.now path.now) }
 {
-    let count = scalars_along(path, message, scalars);
+    message.is_known();
+    let count = scalars_along(path, message);
     if count >= 190 {
         return Err(NoMemory);
     }
-    match gather(alloc, count, path, goal, message, scalars) {
-        Ok(builder) => gathered_query(alloc, builder, message, scalars),
+    match gather(alloc, count, path, goal, message) {
+        Ok(builder) => gathered_query(alloc, builder, message),
         Err(_) => Err(NoMemory),
     }
 }
@@ -139,5 +133,20 @@ pub fn query(
     requires path { IsPath (graph_of message.now) Start path.now (source goal.now) }
     ensures { IfOk result (λ query. query ≡ query_for (domains_of spec.now) (graph_of message.now) goal.now path.now) }
 {
-    query_with(alloc, message, spec.scalars.as_slice(), path.links(), goal)
+    let checkable = Checkable::over(spec, message);
+    path_query(alloc, &checkable, path, goal)
+}
+
+/// The query of a path to a goal's source, of a message that can be checked.
+pub fn path_query(
+    alloc: Global,
+    message: &Checkable<'_>,
+    path: &Path,
+    goal: &Goal,
+) -> Result<Query, NoMemory>
+    requires goal { IsGoal message.now.domains message.now.graph goal.now }
+    requires path { IsPath message.now.graph Start path.now (source goal.now) }
+    ensures { IfOk result (λ query. query ≡ query_for message.now.domains message.now.graph goal.now path.now) }
+{
+    query_with(alloc, message.elaborated(), path.links(), goal)
 }

@@ -1,7 +1,7 @@
 -- The refusal of links that lead back to their source.
 --   node_number, ends_of            the nodes of a message as numbers, and a link between them
 --   AreWithin count links           the fields that links name are among the first `count`
---   no_cycle name start fields ws   16 at the target of the first link that leads back
+--   no_cycle name start fields ws   Cycle at the target of the first link that leads back
 --   StandsWithoutCycle              then the message that has these links has no cycle
 use Rattle.std.specs.Prelude.{◌≡◌, ℕ, ◌+◌, ◌<◌, List, [], Option, Some, None, Ok, Err, map, slice_get}
 use Rattle.rx_syntax.specs.declared.token.Place.{Place}
@@ -15,7 +15,8 @@ use Rattle.rx_graph.specs.declared.message.Node.TheVariants as node
 use Rattle.rx_graph.specs.Graph.{Arrow, Graph}
 use Rattle.rx_graph.specs.Cycles.{IsLink, HasNoCycle}
 use Rattle.rx_judge.specs.Meaning.{Meaning}
-use Rattle.rx_judge.specs.declared.fault.Refusal.{Refusal}
+use Rattle.rx_syntax.specs.declared.rule.Refusal.{Refusal}
+use Rattle.rx_syntax.specs.declared.rule.Rule.TheVariants as rule
 use Rattle.rx_links.specs.declared.links.Stop.{Stop}
 use Rattle.rx_links.specs.declared.links.Stop.TheVariants.{Start, At, Null}
 use Rattle.rx_links.specs.declared.links.Way.{Way}
@@ -53,7 +54,7 @@ clause_of thens None = None
 clause_of thens (Some k) = slice_get thens k
 
 abbrev pub cycle_at : Place → List ℕ → Refusal
-cycle_at p w = record { number = 16; place = p; name = w }
+cycle_at p w = record { rule = rule.Cycle; place = p; word = Some w }
 
 abbrev pub told_of_field : Named → Option FieldTree → Refusal
 told_of_field name None = cycle_at name.place name.word

@@ -2,11 +2,12 @@
 --   gathered_from f n xs        the lists that items mean, one after the other; item i is f (n + i)
 --   stop_at count i             the field at place i of `count` fields, or null behind the last one
 --   node_ways, field_ways       the links of a node
---   links_of start fields       the links of the start and of the fields, in order of text; 8 at a target that is no field
+--   links_of start fields       the links of the start and of the fields, in order of text; UnknownName at a target that is no field
 use Rattle.std.specs.Prelude.{ℕ, ◌+◌, List, [], ◌∷◌, ◌++◌, length, Option, Some, None, Result, Ok, nat_lt, if◌then◌else◌}
 use Rattle.rx_syntax.specs.declared.token.Place.{Place}
 use Rattle.rx_syntax.specs.declared.tree.ThenTree.{ThenTree}
 use Rattle.rx_syntax.specs.declared.tree.FieldTree.{FieldTree}
+use Rattle.rx_syntax.specs.declared.rule.Rule.TheVariants as rule
 use Rattle.rx_judge.specs.Meaning.{Meaning, ◌>>=◌, refused, each_from}
 use Rattle.rx_judge.specs.Table.{Entry, found}
 use Rattle.rx_links.specs.Positions.{positions}
@@ -24,9 +25,9 @@ gathered_from f n (x ∷ xs) = do
 abbrev pub stop_at : ℕ → ℕ → Stop
 stop_at count i = if nat_lt i count then At i else Null
 
--- the field of a name that is written at the place; 8 where there is none
+-- the field of a name that is written at the place; UnknownName where there is none
 abbrev pub field_at : Place → List ℕ → Option ℕ → Meaning Stop
-field_at p w None = refused 8 p w
+field_at p w None = refused rule.UnknownName p w
 field_at p w (Some i) = Ok (At i)
 
 abbrev pub target_of : List (Entry ℕ) → Place → Option (List ℕ) → Meaning Stop

@@ -5,14 +5,14 @@ ghost use Rattle.rx_judge.specs.Meaning.{Tells};
 ghost use Rattle.rx_links.specs.Counts.{counts_stand};
 
 use rx_judge::{Fault, refused_at};
-use rx_syntax::Named;
+use rx_syntax::{Named, Rule};
 use std::alloc::Global;
 
 const MOST_FIELDS: usize = 128;
 
 const MOST_LINKS: usize = 512;
 
-/// That a message has at most 128 fields and 512 links; else 21 at its name.
+/// That a message has at most 128 fields and 512 links; else GraphLimit at its name.
 pub fn counts_stand(alloc: Global, name: &Named, fields: usize, links: usize) -> Result<(), Fault>
     ensures meaning { IfOk result (λ x. counts_stand name.now fields links ≡ Ok x) }
     ensures refusal { IfErr result (λ e. Tells e (counts_stand name.now fields links)) }
@@ -20,6 +20,6 @@ pub fn counts_stand(alloc: Global, name: &Named, fields: usize, links: usize) ->
     if fields <= MOST_FIELDS && links <= MOST_LINKS {
         Ok(())
     } else {
-        Err(Fault::Refused(refused_at(alloc, 21, name)?))
+        Err(Fault::Refused(refused_at(alloc, Rule::GraphLimit, name)?))
     }
 }

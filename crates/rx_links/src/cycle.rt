@@ -8,8 +8,8 @@ ghost use Rattle.rx_links.specs.Cycle.{IsStop, AreWithin, node_number, ends_of, 
 
 use crate::links::{Stop, Way};
 use rx_cycle::{Ends, first_to_return};
-use rx_judge::{Fault, NoMemory, Refusal, refused, refused_at};
-use rx_syntax::{FieldTree, Named, ThenTree};
+use rx_judge::{Fault, NoMemory, refused, refused_at};
+use rx_syntax::{FieldTree, Named, Refusal, Rule, ThenTree};
 use std::alloc::Global;
 
 fn first(alloc: Global, nodes: usize, links: &[Ends]) -> Result<Option<usize>, NoMemory>
@@ -50,10 +50,10 @@ fn told_by_field(
 {
     if let Stop::At(index) = target {
         if let Some(field) = fields.get(index) {
-            return refused_at(alloc, 16, &field.name);
+            return refused_at(alloc, Rule::Cycle, &field.name);
         }
     }
-    refused_at(alloc, 16, name)
+    refused_at(alloc, Rule::Cycle, name)
 }
 
 fn told_by_clause(
@@ -66,7 +66,7 @@ fn told_by_clause(
     ensures { IfOk result (λ r. r ≡ told_by_clause name.now fields.now target clause.now.place clause.now.target) }
 {
     match &clause.target {
-        Some(word) => refused(alloc, 16, clause.place, word),
+        Some(word) => refused(alloc, Rule::Cycle, clause.place, word),
         None => told_by_field(alloc, name, fields, target),
     }
 }
@@ -110,7 +110,7 @@ fn told(
             let clause = clause_of(clauses_of(start, fields, way.source), way.clause);
             told_at(alloc, name, fields, way.target, clause)
         }
-        None => refused_at(alloc, 16, name),
+        None => refused_at(alloc, Rule::Cycle, name),
     }
 }
 
@@ -145,8 +145,8 @@ fn ends_of(alloc: Global, ways: &[Way]) -> Result<Vec<Ends>, NoMemory>
     Ok(ends)
 }
 
-/// That no link leads back to its source; else 16 at the target of the first one in order of text that does, or at the
-/// message's name for a link whose target has no name.
+/// That no link leads back to its source; else Cycle at the target of the first one in order of text that does, or at
+/// the message's name for a link whose target has no name.
 pub fn no_cycle(
     alloc: Global,
     name: &Named,

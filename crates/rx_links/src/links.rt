@@ -7,7 +7,7 @@ ghost use Rattle.rx_links.specs.Cycle.{AreWithin};
 ghost use Rattle.rx_links.specs.Links.{stop_at, target_of, then_way, node_ways, field_ways, links_of};
 
 use rx_judge::{Fault, NoMemory, Table, refused};
-use rx_syntax::{FieldTree, ThenTree};
+use rx_syntax::{FieldTree, Rule, ThenTree};
 use std::alloc::Global;
 
 /// Where a link begins or ends; a field by its place in the message.
@@ -45,7 +45,7 @@ fn target_of(alloc: Global, table: &Table<usize>, then: &ThenTree) -> Result<Sto
         None => Ok(Stop::Null),
         Some(word) => match table.find(alloc, b"", word.as_str().as_bytes())? {
             Some(index) => Ok(Stop::At(index)),
-            None => Err(Fault::Refused(refused(alloc, 8, then.place, word)?)),
+            None => Err(Fault::Refused(refused(alloc, Rule::UnknownName, then.place, word)?)),
         },
     }
 }
@@ -123,7 +123,7 @@ fn append(ways: &mut Vec<Way>, more: &[Way]) -> Result<(), NoMemory>
 }
 
 /// The links of a message in order of text, where `table` has the places of the fields: those of the start, then those
-/// of each field; 8 at a target that is no field.
+/// of each field; UnknownName at a target that is no field.
 pub fn links_of(
     alloc: Global,
     table: &Table<usize>,

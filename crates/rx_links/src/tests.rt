@@ -48,7 +48,7 @@ fn field(alloc: Global, name: &str, line: u32, target: &str) -> Result<FieldTree
 // The number and the column of the refusal; 0 where there is none.
 fn told(fault: &Fault) -> (u8, u32) {
     match fault {
-        Fault::Refused(refusal) => (refusal.number, refusal.place.column),
+        Fault::Refused(refusal) => (refusal.rule.number(), refusal.place.column),
         Fault::NoMemory => (0, 0),
     }
 }

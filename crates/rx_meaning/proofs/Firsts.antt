@@ -12,7 +12,7 @@ use Rattle.rx_judge.specs.Names.{Scope, Within}
 use Rattle.rx_links.specs.declared.links.Stop.{Stop}
 use Rattle.rx_links.specs.declared.links.Stop.TheVariants as stop
 use Rattle.rx_links.specs.declared.links.Way.{Way}
-use Rattle.rx_elab.specs.Firsts.{is_of_numbers, is_step_by, is_step, name_of_last, is_form, field_of_name, is_behind, has_first_form, laid, laid_if_any, first_from, clause_first, field_first, target_first, way_first, laying_of, layings_of}
+use Rattle.rx_elab.specs.Firsts.{is_of_numbers, is_step_by, is_step, name_of_last, is_form, field_of_name, is_behind, has_first_form, laid, unlaid, laid_if_any, unlaid_if_any, first_from, clause_first, field_first, target_first, way_first, laying_of, layings_of}
 use Rattle.rx_trees.specs.Alike.{AreSame, IsSameIfAny, IsSameExpr, IsSameAspect, IsSameThen, IsSameField, IsSameMessage}
 use Rattle.rx_trees.specs.Alike as alike
 use Rattle.rx_meaning.proofs.Lists.{item_same}
@@ -70,6 +70,19 @@ laid_same s (alike.negative h) = refl
 laid_same s (alike.negation h) = refl
 laid_same s (alike.binary h k) = refl
 
+pub unlaid_same : {e f : ExprTree} (s : Scope) → IsSameExpr e f → unlaid s e ≡ unlaid s f
+unlaid_same s alike.number = refl
+unlaid_same s alike.name = refl
+unlaid_same s alike.attribute = refl
+unlaid_same s alike.member = refl
+unlaid_same s (alike.negative h) = refl
+unlaid_same s (alike.negation h) = refl
+unlaid_same s (alike.binary h k) = refl
+
+unlaid_if_any_same : {o p : Option ExprTree} (s : Scope) → IsSameIfAny IsSameExpr o p → unlaid_if_any s o ≡ unlaid_if_any s p
+unlaid_if_any_same s alike.none = refl
+unlaid_if_any_same s (alike.some h) = unlaid_same s h
+
 laid_if_any_same : {o p : Option ExprTree} (s : Scope) → IsSameIfAny IsSameExpr o p → laid_if_any s o ≡ laid_if_any s p
 laid_if_any_same s alike.none = refl
 laid_if_any_same s (alike.some h) = laid_same s h
@@ -103,4 +116,4 @@ pub layings_same : {m n : MessageTree} (s : Scope) (ways : List Way) → IsSameM
 layings_same {m} {n} s ways h = λ i. map (λ w. each w i) ways
   where
     each : (w : Way) → laying_of s m w ≡ laying_of s n w
-    each w = ap (λ (o : Option ℕ). record { target = w.target; over = o }) (laid_if_any_same s (way_first_same w h))
+    each w = λ i. record { target = w.target; over = laid_if_any_same s (way_first_same w h) i; beside = unlaid_if_any_same s (way_first_same w h) i }

@@ -1,5 +1,5 @@
 -- What is written at the fields and links of a message is the same in messages that are the same.
-use Rattle.std.proofs.Common.{◌≡◌, ◌∙◌, ap, refl, ℕ, not, List, Option, Some, Ok, codes}
+use Rattle.std.proofs.Common.{◌≡◌, ◌∙◌, ap, refl, ℕ, not, ◌||◌, List, Option, Some, Ok, codes}
 use Rattle.std.specs.Prelude.{if◌then◌else◌}
 use Rattle.rx_syntax.specs.declared.token.Place.{Place}
 use Rattle.rx_syntax.specs.declared.tree.ExprTree.{ExprTree}
@@ -7,17 +7,18 @@ use Rattle.rx_syntax.specs.declared.tree.AspectTree.{AspectTree}
 use Rattle.rx_syntax.specs.declared.tree.ThenTree.{ThenTree}
 use Rattle.rx_syntax.specs.declared.tree.FieldTree.{FieldTree}
 use Rattle.rx_syntax.specs.declared.tree.MessageTree.{MessageTree}
+use Rattle.rx_syntax.specs.declared.rule.Rule.TheVariants as rule
 use Rattle.rx_judge.specs.Meaning.{Meaning, ◌>>=◌, refused, each_from}
 use Rattle.rx_judge.specs.Names.{Scope, Within}
 use Rattle.rx_judge.specs.Kinds.{is_number, is_truth}
 use Rattle.rx_judge.specs.declared.names.KnownField.{KnownField}
-use Rattle.rx_elab.specs.Parts.{Parts, FieldParts, no_parts, root_name, number_judged, truth_judged, is_scalar_field, target_in, is_mixed_target, first_stands, first_judged, size_judged, with_aspect, with_condition, parts_judged, then_parts, field_parts, message_parts}
+use Rattle.rx_elab.specs.Parts.{Parts, FieldParts, no_parts, root_name, number_judged, truth_judged, is_scalar_field, target_in, is_mixed_target, is_mixed_beside, first_stands, first_judged, size_judged, with_aspect, with_condition, parts_judged, then_parts, field_parts, message_parts}
 use Rattle.rx_elab.specs.declared.layings.Laying.{Laying}
 use Rattle.rx_trees.specs.Alike as alike
 use Rattle.rx_trees.specs.Alike.{AreSame, IsSameIfAny, IsSameExpr, IsSameAspect, IsSameThen, IsSameField, IsSameMessage}
 use Rattle.rx_meaning.proofs.Lists.{first_same, bind_same, each_same, through_same}
 use Rattle.rx_meaning.proofs.Exprs.{judged_same, root_place_same}
-use Rattle.rx_meaning.proofs.Firsts.{first_form_same, laid_same}
+use Rattle.rx_meaning.proofs.Firsts.{first_form_same, laid_same, unlaid_same}
 
 -- ---- expressions
 
@@ -31,22 +32,22 @@ root_name_same owner (alike.negation h) = refl
 root_name_same owner (alike.binary h k) = refl
 
 number_same : {e f : ExprTree} (s : Scope) (owner : List ℕ) → IsSameExpr e f → number_judged s owner e ≡ number_judged s owner f
-number_same s owner h = λ i. judged_same (Within s) owner h i >>= (λ x. if is_number x.about.kind then Ok x.tree else refused 10 (root_place_same h i) (root_name_same owner h i))
+number_same s owner h = λ i. judged_same (Within s) owner h i >>= (λ x. if is_number x.about.kind then Ok x.tree else refused rule.WrongType (root_place_same h i) (root_name_same owner h i))
 
 truth_same : {e f : ExprTree} (s : Scope) (owner : List ℕ) → IsSameExpr e f → truth_judged s owner e ≡ truth_judged s owner f
-truth_same s owner h = λ i. judged_same (Within s) owner h i >>= (λ x. if is_truth x.about.kind then Ok x.tree else refused 10 (root_place_same h i) (root_name_same owner h i))
+truth_same s owner h = λ i. judged_same (Within s) owner h i >>= (λ x. if is_truth x.about.kind then Ok x.tree else refused rule.WrongType (root_place_same h i) (root_name_same owner h i))
 
 -- ---- aspects and conditions
 
 module _ (s : Scope) (ls : List Laying) (owner : List ℕ) (target : Option KnownField) where
   first_stands_same : {e f : ExprTree} (p : Place) → IsSameExpr e f → first_stands s ls owner target p e ≡ first_stands s ls owner target p f
-  first_stands_same p h = λ i. if not (first_form_same s owner h i) then refused 18 p (codes "First") else (if is_mixed_target ls target (laid_same s h i) then refused 17 p (codes "First") else Ok tt)
+  first_stands_same p h = λ i. if is_mixed_target ls target (laid_same s h i) || is_mixed_beside ls target (unlaid_same s h i) then refused rule.OverlayMixed p (codes "First") else (if not (first_form_same s owner h i) then refused rule.FirstForm p (codes "First") else Ok tt)
 
   first_judged_same : {e f : ExprTree} (p : Place) → IsSameExpr e f → first_judged s ls owner target p e ≡ first_judged s ls owner target p f
   first_judged_same p h = λ i. first_stands_same p h i >>= (λ u. number_same s owner h i)
 
   size_judged_same : {e f : ExprTree} (p : Place) → IsSameExpr e f → size_judged s owner target p e ≡ size_judged s owner target p f
-  size_judged_same p h = λ i. if is_scalar_field target then refused 10 p (codes "Size") else number_same s owner h i
+  size_judged_same p h = λ i. if is_scalar_field target then refused rule.WrongType p (codes "Size") else number_same s owner h i
 
   aspect_same : {a b : AspectTree} (parts : Parts) → IsSameAspect a b → with_aspect s ls owner target parts a ≡ with_aspect s ls owner target parts b
   aspect_same parts (alike.first {at = at} h) = first_same (λ x. Ok (record parts { first = Some x })) (first_judged_same at h)

@@ -7,6 +7,7 @@ use Rattle.rx_syntax.specs.declared.tree.ExprTree.{ExprTree}
 use Rattle.rx_syntax.specs.declared.tree.LiteralTree.{LiteralTree}
 use Rattle.rx_syntax.specs.declared.tree.EnumAspect.{EnumAspect}
 use Rattle.rx_syntax.specs.declared.tree.DefTree.{DefTree}
+use Rattle.rx_syntax.specs.declared.rule.Rule.TheVariants as rule
 use Rattle.rx_types.specs.Domain.{Integer, Enumeration}
 use Rattle.rx_judge.specs.Meaning.{◌>>=◌, refused, refused_at, each_from}
 use Rattle.rx_judge.specs.Names.{Nothing}
@@ -20,13 +21,13 @@ use Rattle.rx_meaning.proofs.Exprs.{judged_same, root_place_same}
 -- ---- integers
 
 pub static_value_same : (owner : List ℕ) {e f : ExprTree} → IsSameExpr e f → static_value owner e ≡ static_value owner f
-static_value_same owner h = bind_same (judged_same Nothing owner h) (λ x. ap (λ (p : Place). if is_number x.about.kind then Ok x.about.interval.low else refused 10 p owner) (root_place_same h))
+static_value_same owner h = bind_same (judged_same Nothing owner h) (λ x. ap (λ (p : Place). if is_number x.about.kind then Ok x.about.interval.low else refused rule.WrongType p owner) (root_place_same h))
 
 unsigned_same : (name : Named) {e f : ExprTree} → IsSameExpr e f → unsigned name e ≡ unsigned name f
-unsigned_same name h = first_same (λ n. if is_size n then Ok (Integer 0 (2 ^ nat_abs n - 1) (nat_abs n)) else refused_at 20 name) (static_value_same name.word h)
+unsigned_same name h = first_same (λ n. if is_size n then Ok (Integer 0 (2 ^ nat_abs n - 1) (nat_abs n)) else refused_at rule.BadRange name) (static_value_same name.word h)
 
 range_same : (name : Named) {a b c d e f : ExprTree} → IsSameExpr a b → IsSameExpr c d → IsSameExpr e f → range name a c e ≡ range name b d f
-range_same name h k l = bind_same (static_value_same name.word h) (λ x. bind_same (static_value_same name.word k) (λ y. first_same (λ n. if is_range x y n then Ok (Integer (nat_abs x) (nat_abs y) (nat_abs n)) else refused_at 20 name) (static_value_same name.word l)))
+range_same name h k l = bind_same (static_value_same name.word h) (λ x. bind_same (static_value_same name.word k) (λ y. first_same (λ n. if is_range x y n then Ok (Integer (nat_abs x) (nat_abs y) (nat_abs n)) else refused_at rule.BadRange name) (static_value_same name.word l)))
 
 -- ---- literals
 
@@ -61,9 +62,9 @@ always_valid_same (alike.next alike.always ss) = refl
 
 -- the literals with these numbers, where they are those of the size
 measured_same : (name : Named) (zs : List ℤ) (n : ℤ) {ls ms : List LiteralTree} {xs ys : List EnumAspect} → AreSame IsSameLiteral ls ms → AreSame IsSameEnumAspect xs ys
-    → (if are_literals n zs then (each_from (literal_at zs) 0 ls >>= (λ literals. Ok (Enumeration literals (nat_abs n) (always_valid xs)))) else refused_at 20 name)
-    ≡ (if are_literals n zs then (each_from (literal_at zs) 0 ms >>= (λ literals. Ok (Enumeration literals (nat_abs n) (always_valid ys)))) else refused_at 20 name)
-measured_same name zs n a b = ap (λ m. if are_literals n zs then m else refused_at 20 name) (bind_same (each_same 0 (λ i x y h. literal_at_same zs i h) a) (λ literals. ap (λ v. Ok (Enumeration literals (nat_abs n) v)) (always_valid_same b)))
+    → (if are_literals n zs then (each_from (literal_at zs) 0 ls >>= (λ literals. Ok (Enumeration literals (nat_abs n) (always_valid xs)))) else refused_at rule.BadRange name)
+    ≡ (if are_literals n zs then (each_from (literal_at zs) 0 ms >>= (λ literals. Ok (Enumeration literals (nat_abs n) (always_valid ys)))) else refused_at rule.BadRange name)
+measured_same name zs n a b = ap (λ m. if are_literals n zs then m else refused_at rule.BadRange name) (bind_same (each_same 0 (λ i x y h. literal_at_same zs i h) a) (λ literals. ap (λ v. Ok (Enumeration literals (nat_abs n) v)) (always_valid_same b)))
 
 enumeration_same : (name : Named) {ls ms : List LiteralTree} {xs ys : List EnumAspect} → AreSame IsSameLiteral ls ms → AreSame IsSameEnumAspect xs ys → enumeration name ls xs ≡ enumeration name ms ys
 enumeration_same name a b = bind_same (numbers_same name.word a) (λ zs. bind_same (size_of_aspects_same name.word b) (λ sizes. same_after (given name (first_some sizes)) (λ n. measured_same name zs n a b)))

@@ -7,6 +7,7 @@ use Rattle.rx_syntax.specs.declared.tree.AspectTree.{AspectTree}
 use Rattle.rx_syntax.specs.declared.tree.ThenTree.{ThenTree}
 use Rattle.rx_syntax.specs.declared.tree.FieldTree.{FieldTree}
 use Rattle.rx_syntax.specs.declared.tree.MessageTree.{MessageTree}
+use Rattle.rx_syntax.specs.declared.rule.Rule.TheVariants as rule
 use Rattle.rx_graph.specs.Graph.{Arrow}
 use Rattle.rx_judge.specs.Meaning.{◌>>=◌, refused_at}
 use Rattle.rx_judge.specs.Table.{Entry}
@@ -47,7 +48,7 @@ message_few_same : {m n : MessageTree} → IsSameMessage m n → message_has_few
 message_few_same h = λ i. every_same (λ x y k. then_few_same k) h.start i && every_same (λ x y k. field_few_same k) h.fields i
 
 few_stand_same : {m n : MessageTree} (name : Named) → IsSameMessage m n → few_stand name m ≡ few_stand name n
-few_stand_same name h = λ i. if message_few_same h i then Ok tt else refused_at 6 name
+few_stand_same name h = λ i. if message_few_same h i then Ok tt else refused_at rule.TooDeep name
 
 -- ---- links
 

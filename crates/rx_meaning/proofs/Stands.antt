@@ -14,6 +14,7 @@ use Rattle.rx_syntax.specs.declared.tree.MessageTree.{MessageTree}
 use Rattle.rx_syntax.specs.declared.tree.FieldTree.{FieldTree}
 use Rattle.rx_syntax.specs.declared.tree.ThenTree.{ThenTree}
 use Rattle.rx_syntax.specs.declared.tree.AspectTree.{AspectTree}
+use Rattle.rx_syntax.specs.declared.rule.Rule.TheVariants as rule
 use Rattle.rx_judge.specs.Meaning.{Meaning, refused}
 use Rattle.rx_judge.specs.Table.{added, has}
 use Rattle.rx_elab.specs.Through.{through}
@@ -26,7 +27,7 @@ use Rattle.rx_meaning.proofs.Lists.{ap_two, same_after, bind_same, first_same, a
 
 -- a second aspect of a name is refused at its place
 abbrev twice : Bool → Place → List ℕ → Meaning (Unit {0})
-twice b p w = if b then refused 9 p w else Ok tt
+twice b p w = if b then refused rule.NameClash p w else Ok tt
 
 twice_same : {b c : Bool} {p q : Place} {v w : List ℕ} → b ≡ c → p ≡ q → v ≡ w → twice b p v ≡ twice c q w
 twice_same {c = c} {p = p} {v = v} e h k = ap (λ (b : Bool). twice b p v) e ∙ ap_two (λ p w. twice c p w) h k

@@ -1,11 +1,15 @@
 -- From what was found to the answer, over plain texts and input.
-use Rattle.std.proofs.Common.{◌≡◌, ℕ, ◌∷◌, [], List, Option, Some, None, IfSome, Result, Ok, Err, IfOk, ap, subst, sym, refl}
+use Rattle.std.proofs.Common.{◌≡◌, ℕ, ◌∷◌, [], List, Option, Some, None, IfSome, Result, Ok, Err, IfOk, ap, ◌∙◌, subst, sym, refl, option_map}
 use Rattle.rx_io.specs.Faults.{HasRisen}
 use Rattle.rx_io.specs.Shelf.{Texts}
 use Rattle.rx_types.specs.Domain.{Domain}
 use Rattle.rx_graph.specs.declared.spec.Spec.{Spec}
 use Rattle.rx_graph.specs.Elaborated.{IsSound}
-use Rattle.rx_graph.specs.Graph.{Graph, spec_of, domains_of}
+use Rattle.rx_graph.specs.Graph.{Graph, Specified, spec_of}
+use Rattle.rx_graph.specs.Typed.{Typed, typed}
+use Rattle.rx_forms.specs.Checkable.{TypedMessages}
+use Rattle.rx_forms.specs.Checkable.{messages_of as all_of}
+use Rattle.rx_spec.specs.Elaboration.{elaborated}
 use Rattle.rx_spec.specs.Laws.{domains_in}
 use Rattle.rx_values.specs.Laws.{AreNamed}
 use Rattle.rx_report.specs.Reported.{messages_of, Passes, IsReported, HasOpen}
@@ -17,17 +21,19 @@ use Rattle.rx_program.specs.declared.answer.Answer.{Answer}
 use Rattle.rx_program.specs.declared.answer.Answer.TheVariants as answer
 use Rattle.rx_program.specs.declared.words.Ask as code
 use Rattle.rx_program.specs.declared.words.Does.TheVariants.{Checks, Decodes, Encodes}
-use Rattle.rx_program.specs.declared.closure.Packages.{Packages}
-use Rattle.rx_program.specs.declared.closure.Stop.{Stop}
-use Rattle.rx_program.specs.Words.{Does, asked_for}
+use Rattle.rx_closure.specs.declared.closure.Packages.{Packages}
+use Rattle.rx_closure.specs.declared.closure.Stop.{Stop}
+use Rattle.rx_program.specs.Words.{Does, Ask, asked_for, message_asked}
 use Rattle.rx_program.specs.Asked.{ask_of, does_of}
-use Rattle.rx_program.specs.Closure.{IsClosure}
-use Rattle.rx_program.specs.Stop.{Stops}
+use Rattle.rx_closure.specs.Closure.{IsClosure}
+use Rattle.rx_closure.specs.Stop.{Stops}
 use Rattle.rx_program.specs.Input.{IsReadAs, IsWrittenAs}
-use Rattle.rx_program.specs.Request.{Request, Means, Finds, Serves, IsTooLong, AnswersTo, request_of}
+use Rattle.rx_program.specs.Request.{Request, AreMeant, IsFound, Serves, IsTooLong, AnswersTo, request_of}
 use Rattle.rx_program.specs.Answers.{Asks, Answers}
 use Rattle.rx_program.specs.Outcome.{FaultCounts, IsCaused, Prints, Outcome}
-use Rattle.rx_program.proofs.OperandLemmas.{domains_same}
+use Rattle.rx_program.specs.Stage.{AreServed}
+use Rattle.rx_program.specs.Operand.{message_in}
+use Rattle.rx_program.proofs.OperandLemmas.{domains_same, there, typed_by, nothing_there}
 
 -- ---- what packages answer
 
@@ -40,26 +46,11 @@ pub told_if : {E : Type 0} (input : Option (List ℕ)) (r : Request) (res : Resu
 told_if input r (Err e) answers = tt
 told_if input r (Ok a) answers = told_any input r a answers
 
-module _ (ask : code.Ask) (p : Packages) (spec : Spec) (m : Graph) where
+module _ (ask : code.Ask) (p : Packages) (spec : Specified) (m : Graph) where
   abbrev request : Request
   request = request_of (ask_of ask) p
 
-  -- what is known of a message that is served
-  pub record IsServed : Type 0 where
-    pub finds : Finds request (spec_of spec) m
-    pub passes : Passes (domains_of spec) ask.splits m
-    pub sound : IsSound (domains_of spec) m
-    pub named : AreNamed (domains_of spec) m
-
-  serves_by : IsServed → Serves request (spec_of spec) m
-  serves_by known = record {
-    finds = known.finds;
-    passes = subst (λ (ds : List Domain). Passes ds ask.splits m) (sym (domains_same spec)) known.passes;
-    sound = subst (λ (ds : List Domain). IsSound ds m) (sym (domains_same spec)) known.sound;
-    named = subst (λ (ds : List Domain). AreNamed ds m) (sym (domains_same spec)) known.named;
-  }
-
-  read_answers : (name left : List ℕ) (a : Answer) → does_of ask.does ≡ does_of (Decodes name) → Serves request (spec_of spec) m → IsReadAs (domains_in (spec_of spec)) m left a → AnswersTo request left a
+  read_answers : (name left : List ℕ) (a : Answer) → does_of ask.does ≡ does_of (Decodes name) → Serves request spec m → IsReadAs (domains_in spec) m left a → AnswersTo request left a
   read_answers name left answer.Usage is serves read = absurd read
   read_answers name left answer.ShelfFault is serves read = absurd read
   read_answers name left (answer.NoPackage n) is serves read = absurd read
@@ -71,12 +62,12 @@ module _ (ask : code.Ask) (p : Packages) (spec : Spec) (m : Graph) where
   read_answers name left (answer.NoMessage n x) is serves read = absurd read
   read_answers name left (answer.Checked r) is serves read = absurd read
   read_answers name left (answer.Rejected r) is serves read = absurd read
-  read_answers name left answer.SourceFault is serves read = (spec_of spec, m, serves)
-  read_answers name left answer.InputLimit is serves read = (spec_of spec, m, serves, subst (λ (d : Does). IsTooLong request d (spec_of spec) m left) (sym is) read)
-  read_answers name left (answer.Input decoding) is serves read = (spec_of spec, m, name, serves, is, read.0, read.1)
+  read_answers name left answer.SourceFault is serves read = (spec, m, serves)
+  read_answers name left answer.InputLimit is serves read = (spec, m, serves, subst (λ (d : Does). IsTooLong request d spec m left) (sym is) read)
+  read_answers name left (answer.Input decoding) is serves read = (spec, m, name, serves, is, read.0, read.1)
   read_answers name left (answer.Output encoding) is serves read = absurd read
 
-  written_answers : (name left : List ℕ) (a : Answer) → does_of ask.does ≡ does_of (Encodes name) → Serves request (spec_of spec) m → IsWrittenAs (domains_in (spec_of spec)) m left a → AnswersTo request left a
+  written_answers : (name left : List ℕ) (a : Answer) → does_of ask.does ≡ does_of (Encodes name) → Serves request spec m → IsWrittenAs (domains_in spec) m left a → AnswersTo request left a
   written_answers name left answer.Usage is serves read = absurd read
   written_answers name left answer.ShelfFault is serves read = absurd read
   written_answers name left (answer.NoPackage n) is serves read = absurd read
@@ -88,47 +79,89 @@ module _ (ask : code.Ask) (p : Packages) (spec : Spec) (m : Graph) where
   written_answers name left (answer.NoMessage n x) is serves read = absurd read
   written_answers name left (answer.Checked r) is serves read = absurd read
   written_answers name left (answer.Rejected r) is serves read = absurd read
-  written_answers name left answer.SourceFault is serves read = (spec_of spec, m, serves)
-  written_answers name left answer.InputLimit is serves read = (spec_of spec, m, serves, subst (λ (d : Does). IsTooLong request d (spec_of spec) m left) (sym is) read)
+  written_answers name left answer.SourceFault is serves read = (spec, m, serves)
+  written_answers name left answer.InputLimit is serves read = (spec, m, serves, subst (λ (d : Does). IsTooLong request d spec m left) (sym is) read)
   written_answers name left (answer.Input decoding) is serves read = absurd read
-  written_answers name left (answer.Output encoding) is serves read = (spec_of spec, m, name, serves, is, read.0, read.1)
+  written_answers name left (answer.Output encoding) is serves read = (spec, m, name, serves, is, read.0, read.1)
 
-  -- what the input is of a message, where it is decoded
-  pub answers_read : {E : Type 0} (input : Option (List ℕ)) (name : List ℕ) (res : Result Answer E) → IsServed → does_of ask.does ≡ does_of (Decodes name)
-      → IfOk res (λ a. IfSome input (λ left. IsReadAs (domains_of spec) m left a)) → IfOk res (λ a. IfSome input (λ left. AnswersTo request left a))
-  answers_read input name (Err e) known is read = tt
-  answers_read None name (Ok a) known is read = tt
-  answers_read (Some left) name (Ok a) known is read = read_answers name left a is (serves_by known) (subst (λ (ds : List Domain). IsReadAs ds m left a) (sym (domains_same spec)) read)
+-- the message that is asked for
+module _ (ask : code.Ask) (p : Packages) (t : Typed) (found : IsFound (request_of (ask_of ask) p) t) where
+  -- it is served where its checks pass
+  served : Passes t.domains ask.splits t.graph → IsSound t.domains t.graph → AreNamed t.domains t.graph → Serves (request_of (ask_of ask) p) found.spec t.graph
+  served passes sound named = record {
+    finds = found.finds;
+    passes = subst (λ (ds : List Domain). Passes ds ask.splits t.graph) found.types passes;
+    sound = subst (λ (ds : List Domain). IsSound ds t.graph) found.types sound;
+    named = subst (λ (ds : List Domain). AreNamed ds t.graph) found.types named;
+  }
+
+  -- what the input is of it, where it is decoded
+  pub answers_read : {E : Type 0} (input : Option (List ℕ)) (name : List ℕ) (res : Result Answer E) → Passes t.domains ask.splits t.graph → IsSound t.domains t.graph → AreNamed t.domains t.graph → does_of ask.does ≡ does_of (Decodes name)
+      → IfOk res (λ a. IfSome input (λ left. IsReadAs t.domains t.graph left a)) → IfOk res (λ a. IfSome input (λ left. AnswersTo (request_of (ask_of ask) p) left a))
+  answers_read input name (Err e) passes sound named is read = tt
+  answers_read None name (Ok a) passes sound named is read = tt
+  answers_read (Some left) name (Ok a) passes sound named is read =
+      read_answers ask p found.spec t.graph name left a is (served passes sound named) (subst (λ (ds : List Domain). IsReadAs ds t.graph left a) found.types read)
 
   -- and where it is encoded
-  pub answers_written : {E : Type 0} (input : Option (List ℕ)) (name : List ℕ) (res : Result Answer E) → IsServed → does_of ask.does ≡ does_of (Encodes name)
-      → IfOk res (λ a. IfSome input (λ left. IsWrittenAs (domains_of spec) m left a)) → IfOk res (λ a. IfSome input (λ left. AnswersTo request left a))
-  answers_written input name (Err e) known is written = tt
-  answers_written None name (Ok a) known is written = tt
-  answers_written (Some left) name (Ok a) known is written = written_answers name left a is (serves_by known) (subst (λ (ds : List Domain). IsWrittenAs ds m left a) (sym (domains_same spec)) written)
+  pub answers_written : {E : Type 0} (input : Option (List ℕ)) (name : List ℕ) (res : Result Answer E) → Passes t.domains ask.splits t.graph → IsSound t.domains t.graph → AreNamed t.domains t.graph → does_of ask.does ≡ does_of (Encodes name)
+      → IfOk res (λ a. IfSome input (λ left. IsWrittenAs t.domains t.graph left a)) → IfOk res (λ a. IfSome input (λ left. AnswersTo (request_of (ask_of ask) p) left a))
+  answers_written input name (Err e) passes sound named is written = tt
+  answers_written None name (Ok a) passes sound named is written = tt
+  answers_written (Some left) name (Ok a) passes sound named is written =
+      written_answers ask p found.spec t.graph name left a is (served passes sound named) (subst (λ (ds : List Domain). IsWrittenAs ds t.graph left a) found.types written)
 
-  -- some check of the message did not pass
-  pub answers_rejected : (input : Option (List ℕ)) (reported : Reported) → Finds request (spec_of spec) m → IsReported (domains_of spec) ask.splits (m ∷ []) reported → HasOpen reported
-      → IfSome input (λ left. AnswersTo request left (answer.Rejected reported))
-  answers_rejected input reported finds is unmet =
-      told_any input request (answer.Rejected reported) (λ left. record {
-        spec = spec_of spec;
-        graph = m;
-        finds = finds;
-        reported_is = subst (λ (ds : List Domain). IsReported ds ask.splits (m ∷ []) reported) (sym (domains_same spec)) is;
+  -- some check of it did not pass
+  pub answers_rejected : (input : Option (List ℕ)) (reported : Reported) → IsReported t.domains ask.splits (t.graph ∷ []) reported → HasOpen reported
+      → IfSome input (λ left. AnswersTo (request_of (ask_of ask) p) left (answer.Rejected reported))
+  answers_rejected input reported is unmet =
+      told_any input (request_of (ask_of ask) p) (answer.Rejected reported) (λ left. record {
+        spec = found.spec;
+        graph = t.graph;
+        finds = found.finds;
+        reported_is = subst (λ (ds : List Domain). IsReported ds ask.splits (t.graph ∷ []) reported) found.types is;
         not_passed = unmet;
       })
 
--- all messages of the package are checked
-pub answers_checked : (input : Option (List ℕ)) (ask : code.Ask) (p : Packages) (spec : Spec) (reported : Reported) → Means (request_of (ask_of ask) p) (spec_of spec) → does_of ask.does ≡ does_of Checks
-    → IsReported (domains_of spec) ask.splits (messages_of ask.name (spec_of spec).messages) reported → IfSome input (λ left. AnswersTo (request_of (ask_of ask) p) left (answer.Checked reported))
-answers_checked input ask p spec reported means asks is =
-    told_any input (request_of (ask_of ask) p) (answer.Checked reported) (λ left. record {
-      spec = spec_of spec;
-      means = means;
-      asked_is = asks;
-      reported_is = subst (λ (ds : List Domain). IsReported ds ask.splits (messages_of ask.name (spec_of spec).messages) reported) (sym (domains_same spec)) is;
-    })
+-- what the packages mean
+module _ (ask : code.Ask) (p : Packages) (t : TypedMessages) (meant : AreMeant (request_of (ask_of ask) p) t) where
+  -- all messages of the package are checked
+  pub answers_checked : (input : Option (List ℕ)) (reported : Reported) → does_of ask.does ≡ does_of Checks → IsReported t.domains ask.splits (messages_of ask.name t.graphs) reported
+      → IfSome input (λ left. AnswersTo (request_of (ask_of ask) p) left (answer.Checked reported))
+  answers_checked input reported asks is =
+      let by_types = subst (λ (ds : List Domain). IsReported ds ask.splits (messages_of ask.name t.graphs) reported) meant.types is in
+      told_any input (request_of (ask_of ask) p) (answer.Checked reported) (λ left. record {
+        spec = meant.spec;
+        means = meant.means;
+        asked_is = asks;
+        reported_is = subst (λ (ms : List Graph). IsReported (domains_in meant.spec) ask.splits (messages_of ask.name ms) reported) meant.messages by_types;
+      })
+
+  -- the message that is found in it is the one that is asked for
+  pub found_in : (name : List ℕ) (m : Typed) → message_asked (does_of ask.does) ≡ Some name → Some m ≡ option_map (typed t.domains) (message_in ask.name name t.graphs) → IsFound (request_of (ask_of ask) p) m
+  found_in name m asks is = record {
+    spec = meant.spec;
+    finds = record { means = meant.means; name = name; asked_is = asks; found = ap (message_in ask.name name) (sym meant.messages) ∙ there t.domains (message_in ask.name name t.graphs) m is };
+    types = typed_by t.domains (message_in ask.name name t.graphs) m is ∙ meant.types;
+  }
+
+  -- it has none of this name
+  pub lacks_in : (input : Option (List ℕ)) (name : List ℕ) → message_asked (does_of ask.does) ≡ Some name → None ≡ option_map (typed t.domains) (message_in ask.name name t.graphs)
+      → IfSome input (λ left. AnswersTo (request_of (ask_of ask) p) left (answer.NoMessage ask.name name))
+  lacks_in input name asks is =
+      told_any input (request_of (ask_of ask) p) (answer.NoMessage ask.name name) (λ left. (
+        refl,
+        record {
+          spec = meant.spec;
+          means = meant.means;
+          asked_is = asks;
+          lacks = ap (message_in ask.name name) (sym meant.messages) ∙ nothing_there t.domains (message_in ask.name name t.graphs) is;
+        },
+      ))
+
+-- what elaboration gives is what the packages mean
+pub meant_by : (ask : Ask) (p : Packages) (s : Spec) → AreServed p.trees.items → elaborated p.asked.items p.trees.items ≡ Ok (spec_of s) → AreMeant (request_of ask p) (all_of s)
+meant_by ask p s served meaning = record { spec = spec_of s; means = record { served = served; meaning = meaning }; types = sym (domains_same s); messages = refl }
 
 -- ---- answers to words
 

@@ -42,7 +42,7 @@ module _ (r t : Request) (same : HaveSame r t) where
     pub carried : (input : List ℕ) (a : Answer) → AnswersTo t input a → AnswersTo r input a
     carried input (Unserved file u) f = record { at = f.at; first = same.forms ∙ f.first; file_is = ap (λ l. slice_get l f.at) same.asked ∙ f.file_is }
     carried input (Broken file q) b =
-        record { served = same.forms ∙ b.served; told = b.told; refused = same.meaning ∙ b.refused; breach_is = b.breach_is; file_is = ap (λ l. slice_get l b.told.«package») same.asked ∙ b.file_is }
+        record { served = same.forms ∙ b.served; told = b.told; refused = same.meaning ∙ b.refused; refusal_is = b.refusal_is; file_is = ap (λ l. slice_get l b.told.«package») same.asked ∙ b.file_is }
     carried input (NoMessage n k) is = (is.0 ∙ sym (ap (λ (a : Ask). a.name) asks), lacks k is.1)
     carried input (Checked x) c = record {
       spec = c.spec;

@@ -1,6 +1,4 @@
 pub mod AnswerLemmas
-pub mod ClosureLemmas
-pub mod NameLemmas
 pub mod OperandLemmas
 pub mod ReadLemmas
 pub mod RequestLemmas

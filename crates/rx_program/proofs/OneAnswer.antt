@@ -5,9 +5,9 @@ use Rattle.rx_trees.specs.Laws.{OneTree}
 use Rattle.rx_meaning.specs.Laws.{OneMeaning}
 use Rattle.rx_program.specs.declared.answer.Answer.{Answer}
 use Rattle.rx_program.specs.declared.answer.Answer.TheVariants.{Usage, ShelfFault, NoPackage, TextLimit, Refused, PackageLimit, Unserved, Broken, NoMessage, Checked, Rejected, SourceFault, InputLimit, Input, Output}
-use Rattle.rx_program.specs.declared.refusal.Refusal.{Refusal}
+use Rattle.rx_syntax.specs.declared.rule.Refusal.{Refusal}
 use Rattle.rx_program.specs.Words.{Ask, asked_for, HaveNoForm}
-use Rattle.rx_program.specs.Closure.{HasNone, HasLong, HasRefused, IsClosure, Reaches, IsCrowded, begins, withs_of}
+use Rattle.rx_closure.specs.Closure.{HasNone, HasLong, HasRefused, IsClosure, Reaches, IsCrowded, begins, withs_of}
 use Rattle.rx_program.specs.Request.{Request, AnswersTo}
 use Rattle.rx_program.specs.Answers.{Asks, AskOf, Answers}
 use Rattle.rx_program.specs.Laws.{is_fault, IsSame}

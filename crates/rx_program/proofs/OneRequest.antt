@@ -4,17 +4,17 @@ use Rattle.std.specs.Prelude.{slice_get}
 use Rattle.rx_types.specs.Domain.{Domain}
 use Rattle.rx_types.specs.declared.stuck.Reason.{Reason}
 use Rattle.rx_types.specs.declared.stuck.Stuck as stuck
-use Rattle.rx_judge.specs.declared.fault.Refusal as judge
+use Rattle.rx_syntax.specs.declared.rule.Refusal.{Refusal}
 use Rattle.rx_graph.specs.Graph.{Graph, Specified}
 use Rattle.rx_decode.specs.Decoded.{HasOneAnswer}
 use Rattle.rx_decode.specs.declared.decoding.Decoded.TheVariants as decoded
 use Rattle.rx_decode.proofs.OneText.{one_answer}
 use Rattle.rx_graph.specs.Elaborated.{IsSound}
-use Rattle.rx_graph.proofs.Sound.{exclusive_from_checks}
+use Rattle.rx_graph.proofs.Exclusions.{exclusive_from_checks}
 use Rattle.rx_report.specs.Reported.{messages_of, IsReported, HasOpen}
 use Rattle.rx_report.specs.declared.reported.Reported.{Reported}
 use Rattle.rx_spec.specs.Laws.{domains_in}
-use Rattle.rx_spec.specs.declared.fault.Told.{Told}
+use Rattle.rx_spec.specs.Elaboration.{Told}
 use Rattle.rx_program.specs.Words.{Does, Checks, Decodes, Encodes, message_asked}
 use Rattle.rx_program.specs.Stage.{of_packages}
 use Rattle.rx_program.specs.Operand.{message_in}
@@ -22,8 +22,6 @@ use Rattle.rx_program.specs.Input.{input_limit, name_if_any, DecodesTo, EncodesT
 use Rattle.rx_program.specs.Request.{Request, TellsForm, TellsRule, Means, Lacks, Finds, Serves, ReportsAll, IsTooLong, AnswersTo}
 use Rattle.rx_program.specs.Laws.{is_fault, IsSame, IsSameReport}
 use Rattle.rx_program.proofs.OneReported.{reported_same, passes_not_open}
-use Rattle.rx_program.specs.declared.stage.Unserved as stage
-use Rattle.rx_program.specs.declared.stage.Found.{Found}
 use Rattle.rx_program.specs.declared.answer.Decoding.{Decoding}
 use Rattle.rx_program.specs.declared.answer.Decoding.TheVariants.{Json, Stuck}
 use Rattle.std.specs.Prelude.{codes, ◌++◌}
@@ -39,7 +37,8 @@ use Rattle.rx_encode.specs.Encoded.{IsEncoded}
 use Rattle.rx_encode.specs.declared.encoding.Encoded.{Encoded}
 use Rattle.rx_encode.specs.declared.encoding.Encoded.TheVariants as encoded
 use Rattle.rx_encode.proofs.OneAnswer.{Code, Refused as Unvalued, Held, Long, Unfits, code, coded, one_code}
-use Rattle.rx_program.specs.Outcome.{line, name_text, unfit_name, key_line, encoding_text, status_of_encoding}
+use Rattle.rx_lines.specs.Lines.{line, name_text}
+use Rattle.rx_program.specs.Outcome.{unfit_name, key_line, encoding_text, status_of_encoding}
 use Rattle.rx_program.specs.declared.status.Status.{Status}
 use Rattle.rx_program.specs.declared.status.Status.TheVariants.{Done, InputRefused}
 use Rattle.rx_program.specs.declared.answer.Encoding.{Encoding}
@@ -191,8 +190,8 @@ module _ (r : Request) (input : List ℕ) where
 
   -- the answer of the packages
   data View (a : Answer) : Type 0 where
-    form : (file : List ℕ) (u : stage.Unserved) → TellsForm r file u → a ≡ Unserved file u → View a
-    rule : (file : List ℕ) (q : judge.Refusal) → TellsRule r file q → a ≡ Broken file q → View a
+    form : (file : List ℕ) (u : Refusal) → TellsForm r file u → a ≡ Unserved file u → View a
+    rule : (file : List ℕ) (q : Refusal) → TellsRule r file q → a ≡ Broken file q → View a
     checks : (x : Reported) → ReportsAll r x → a ≡ Checked x → View a
     lacks : (name : List ℕ) → Lacks r name → a ≡ NoMessage r.ask.name name → View a
     finds : (s : Specified) (m : Graph) → Finds r s m → Late s m a → View a
@@ -278,19 +277,19 @@ module _ (r : Request) (input : List ℕ) where
       let there = subst (λ (s : Specified). IsReported (domains_in s) r.ask.splits (messages_of r.ask.name s.messages) y) specs two.reported_is in
       checked_same a b x y (reported_same (domains_in one.spec) r.ask.splits (messages_of r.ask.name one.spec.messages) x y one.reported_is there) e e'
 
-  form_same : (file file' : List ℕ) (u u' : stage.Unserved) → TellsForm r file u → TellsForm r file' u' → Unserved file' u' ≡ Unserved file u
+  form_same : (file file' : List ℕ) (u u' : Refusal) → TellsForm r file u → TellsForm r file' u' → Unserved file' u' ≡ Unserved file u
   form_same file file' u u' one two =
-      let x : Found = record { «package» = one.at; unserved = u } in
-      let y : Found = record { «package» = two.at; unserved = u' } in
+      let x : Told = record { «package» = one.at; refusal = u } in
+      let y : Told = record { «package» = two.at; refusal = u' } in
       let e : y ≡ x = some_same y x (sym two.first ∙ one.first) in
-      let files = file_same r.asked two.at one.at file' file (ap (λ (f : Found). f.«package») e) two.file_is one.file_is in
-      ap (λ f. Unserved f u') files ∙ ap (Unserved file) (ap (λ (f : Found). f.unserved) e)
+      let files = file_same r.asked two.at one.at file' file (ap (λ (f : Told). f.«package») e) two.file_is one.file_is in
+      ap (λ f. Unserved f u') files ∙ ap (Unserved file) (ap (λ (f : Told). f.refusal) e)
 
-  rule_same : (file file' : List ℕ) (q q' : judge.Refusal) → TellsRule r file q → TellsRule r file' q' → Broken file' q' ≡ Broken file q
+  rule_same : (file file' : List ℕ) (q q' : Refusal) → TellsRule r file q → TellsRule r file' q' → Broken file' q' ≡ Broken file q
   rule_same file file' q q' one two =
       let e : two.told ≡ one.told = told_same two.told one.told (sym two.refused ∙ one.refused) in
       let files = file_same r.asked two.told.«package» one.told.«package» file' file (ap (λ (t : Told). t.«package») e) two.file_is one.file_is in
-      ap (λ f. Broken f q') files ∙ ap (Broken file) (two.breach_is ∙ ap (λ (t : Told). t.refusal) e ∙ sym one.breach_is)
+      ap (λ f. Broken f q') files ∙ ap (Broken file) (two.refusal_is ∙ ap (λ (t : Told). t.refusal) e ∙ sym one.refusal_is)
 
   lacks_same : (n k : List ℕ) → Lacks r n → Lacks r k → NoMessage r.ask.name k ≡ NoMessage r.ask.name n
   lacks_same n k one two = ap (NoMessage r.ask.name) (name_same k n two.asked_is one.asked_is)
@@ -303,10 +302,10 @@ module _ (r : Request) (input : List ℕ) where
   nothing_asked : (name : List ℕ) → r.ask.does ≡ Checks → message_asked r.ask.does ≡ Some name → ⊥
   nothing_asked name is asked = not_none name (sym asked ∙ ap message_asked is)
 
-  form_served : (file : List ℕ) (u : stage.Unserved) → TellsForm r file u → of_packages 0 r.trees ≡ None → ⊥
-  form_served file u f none = (let x : Found = record { «package» = f.at; unserved = u } in not_none x (sym f.first ∙ none))
+  form_served : (file : List ℕ) (u : Refusal) → TellsForm r file u → of_packages 0 r.trees ≡ None → ⊥
+  form_served file u f none = (let x : Told = record { «package» = f.at; refusal = u } in not_none x (sym f.first ∙ none))
 
-  rule_means : (s : Specified) (file : List ℕ) (q : judge.Refusal) → TellsRule r file q → Means r s → ⊥
+  rule_means : (s : Specified) (file : List ℕ) (q : Refusal) → TellsRule r file q → Means r s → ⊥
   rule_means s file q t m = not_both s t.told (sym t.refused ∙ m.meaning)
 
   view_same : (a b : Answer) → View a → View b → IsSame a b

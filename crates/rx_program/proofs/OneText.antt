@@ -16,9 +16,9 @@ use Rattle.rx_grammar.proofs.Complete.{package_before}
 use Rattle.rx_grammar.proofs.OneFault.{one_fault as one_parser_fault, fits_not_deep}
 use Rattle.rx_trees.specs.Alike.{IsSamePackage}
 use Rattle.rx_trees.specs.Laws.{OneTree}
-use Rattle.rx_program.specs.declared.refusal.Refusal.{Refusal}
-use Rattle.rx_program.specs.Refusals.{lexer_refusal, parser_refusal}
-use Rattle.rx_program.specs.Closure.{Has, HasNone, HasLong, HasText, IsRefused, by_lexer, by_parser, IsTree, HasRefused, HasTree, withs_of}
+use Rattle.rx_syntax.specs.declared.rule.Refusal.{Refusal}
+use Rattle.rx_closure.specs.Refusals.{lexer_refusal, parser_refusal}
+use Rattle.rx_closure.specs.Closure.{Has, HasNone, HasLong, HasText, IsRefused, by_lexer, by_parser, IsTree, HasRefused, HasTree, withs_of}
 
 -- at most one text is under a name
 pub text_same : (texts : Texts) (name text other : List ℕ) → Has texts name text → Has texts name other → text ≡ other

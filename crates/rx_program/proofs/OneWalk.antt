@@ -6,7 +6,7 @@ use Rattle.std.proofs.lemmas.Option.{slice_get_within}
 use Rattle.rx_io.specs.Shelf.{Texts}
 use Rattle.rx_syntax.specs.declared.tree.PackageTree.{PackageTree}
 use Rattle.rx_trees.specs.Laws.{OneTree}
-use Rattle.rx_program.specs.Closure.{package_limit, withs_of, added, IsStep, passes, reads, Walked, begins, goes_on, IsClosure}
+use Rattle.rx_closure.specs.Closure.{package_limit, withs_of, added, IsStep, passes, reads, Walked, begins, goes_on, IsClosure}
 use Rattle.rx_program.proofs.OneText.{Met, nothing, too_long, refused, read, IsMet, met_same}
 
 -- what was met at package `k` of the list lets the walk go on, with this list

@@ -6,8 +6,10 @@ use Rattle.rx_graph.specs.Graph.{Graph, Specified}
 use Rattle.rx_elab.specs.Types.{Types, package_types, built_in_types}
 use Rattle.rx_elab.specs.Stand.{package_stands}
 use Rattle.rx_spec.specs.Messages.{package_messages}
-use Rattle.rx_spec.specs.Elaboration.{in_package, through_from, package_stands_in, package_types_in, package_messages_in, elaborated}
-use Rattle.rx_spec.specs.declared.fault.Told.{Told}
+use Rattle.rx_spec.specs.Elaboration.{Told, TellsOf, in_package, through_from, package_stands_in, package_types_in, package_messages_in, elaborated}
+use Rattle.rx_spec.specs.declared.fault.ElabFault.{ElabFault}
+use Rattle.rx_spec.specs.declared.fault.ElabFault.TheVariants.{Refused, NoMemory}
+use Rattle.rx_program.specs.Stage.{IsWithin}
 
 abbrev err : (A : Type 0) → Told → Result A Told
 err A t = Err t
@@ -70,3 +72,7 @@ told_within asked ps t is = by_names (all_stand_from (package_stands_in asked) 0
     by_names : (m : Result (Unit {0}) Told) → all_stand_from (package_stands_in asked) 0 ps ≡ m → (m >>= (λ u. types_meant ps)) ≡ Err t → t.«package» < length ps
     by_names (Ok u) e on = by_types (through_from package_types_in 0 built_in_types ps) refl on
     by_names (Err r) e on = (let rest = stand_within asked 0 ps t (e ∙ again on) in omega arith)
+
+pub fault_within : (asked : List (List ℕ)) (ps : List PackageTree) (e : ElabFault) → TellsOf e (elaborated asked ps) → IsWithin (length ps) e
+fault_within asked ps (Refused i r) is = told_within asked ps (record { «package» = i; refusal = r }) is
+fault_within asked ps NoMemory is = tt

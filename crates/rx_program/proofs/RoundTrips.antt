@@ -22,10 +22,11 @@ use Rattle.rx_encode.specs.declared.encoding.Encoded.{Encoded}
 use Rattle.rx_encode.specs.declared.encoding.Encoded.TheVariants as encoded
 use Rattle.rx_encode.proofs.RoundTrip.{printed_is_encoded, encoded_reads}
 use Rattle.rx_program.specs.Words.{Does, Ask, Checks, Decodes, Encodes, message_asked}
-use Rattle.rx_program.specs.Closure.{IsClosure}
+use Rattle.rx_closure.specs.Closure.{IsClosure}
 use Rattle.rx_program.specs.Request.{Request, Finds, Serves}
 use Rattle.rx_program.specs.Answers.{Asks, Answers}
-use Rattle.rx_program.specs.Outcome.{FaultCounts, Outcome, IsText, line, status_of}
+use Rattle.rx_lines.specs.Lines.{line}
+use Rattle.rx_program.specs.Outcome.{FaultCounts, Outcome, IsText, status_of}
 use Rattle.rx_program.specs.RoundTrips.{AskThat, AskBoth, IsJsonOfText, EncodedIsDecoded, DecodedIsEncoded}
 use Rattle.rx_program.specs.declared.status.Status.TheVariants.{Done, NotAccepted, Words, Specification, Undecided, InputRefused, Limit}
 use Rattle.rx_program.specs.declared.status.Status.TheVariants.{SourceFault as SourceStatus, ShelfFault as ShelfStatus}

@@ -3,9 +3,11 @@ use Rattle.std.proofs.Common.{◌≡◌, ℕ, ◌+◌, ◌<◌, ◌≤◌, List,
 use Rattle.std.specs.Option.{option_or}
 use Rattle.std.proofs.lemmas.List.{at_drop_more, at_drop_all}
 use Rattle.rx_syntax.specs.declared.tree.PackageTree.{PackageTree}
-use Rattle.rx_program.specs.Stage.{first_some, of_declarations, found_in, of_packages}
-use Rattle.rx_program.specs.declared.stage.Unserved.{Unserved}
-use Rattle.rx_program.specs.declared.stage.Found.{Found}
+use Rattle.rx_spec.specs.declared.fault.ElabFault.{ElabFault}
+use Rattle.rx_spec.specs.declared.fault.ElabFault.TheVariants.{Refused, NoMemory}
+use Rattle.rx_program.specs.Stage.{first_some, of_declarations, found_in, of_packages, IsUnserved, IsWithin}
+use Rattle.rx_syntax.specs.declared.rule.Refusal.{Refusal}
+use Rattle.rx_spec.specs.Elaboration.{Told}
 
 -- the first i items have none
 pub record NoneSofar {A B : Type 0} (f : A → Option B) (xs : List A) (i : ℕ) : Type 0 where
@@ -34,8 +36,8 @@ no_forms_more {ps = ps} {i = i} p s within is empty =
     let on = at_drop_more (of_packages i) ps i p within in
     record { rest = s.rest ∙ on ∙ rw (← is, empty) refl }
 
-pub form_first : {ps : List PackageTree} {i : ℕ} (p : PackageTree) (u : Unserved) → NoForms ps i → i < length ps → p ≡ get_or ps i p → of_declarations p.decls.items ≡ Some u
-    → Some (record { «package» = i; unserved = u }) ≡ of_packages 0 ps
+pub form_first : {ps : List PackageTree} {i : ℕ} (p : PackageTree) (u : Refusal) → NoForms ps i → i < length ps → p ≡ get_or ps i p → of_declarations p.decls.items ≡ Some u
+    → Some (record { «package» = i; refusal = u }) ≡ of_packages 0 ps
 form_first {ps = ps} {i = i} p u s within is has =
     let on = at_drop_more (of_packages i) ps i p within in
     sym (s.rest ∙ on ∙ rw (← is, has) refl)
@@ -44,13 +46,17 @@ pub no_forms_all : {ps : List PackageTree} {i : ℕ} → NoForms ps i → length
 no_forms_all {ps = ps} {i = i} s past = sym (s.rest ∙ at_drop_all (of_packages i) ps i past)
 
 -- the package that is told is one of these
-pub found_within : (i : ℕ) (ps : List PackageTree) (found : Found) → of_packages i ps ≡ Some found → found.«package» < i + length ps
+pub found_within : (i : ℕ) (ps : List PackageTree) (found : Told) → of_packages i ps ≡ Some found → found.«package» < i + length ps
 found_within i [] found is = absurd (let no : None ≡ Some found = is in cc)
 found_within i (p ∷ ps) found is = by_first (of_declarations p.decls.items) (λ rest. found_within (i + 1) ps found rest) is
   where
-    by_first : (o : Option Unserved) → (of_packages (i + 1) ps ≡ Some found → found.«package» < i + 1 + length ps) → option_or (found_in i o) (of_packages (i + 1) ps) ≡ Some found → found.«package» < i + length (p ∷ ps)
+    by_first : (o : Option Refusal) → (of_packages (i + 1) ps ≡ Some found → found.«package» < i + 1 + length ps) → option_or (found_in i o) (of_packages (i + 1) ps) ≡ Some found → found.«package» < i + length (p ∷ ps)
     by_first None rest is = (let below = rest is in omega arith)
     by_first (Some u) rest is =
-        let same : found ≡ record { «package» = i; unserved = u } = cc in
-        let here : found.«package» ≡ i = ap (λ (f : Found). f.«package») same in
+        let same : found ≡ record { «package» = i; refusal = u } = cc in
+        let here : found.«package» ≡ i = ap (λ (f : Told). f.«package») same in
         omega arith
+
+pub unserved_within : (ps : List PackageTree) (e : ElabFault) → IsUnserved ps e → IsWithin (length ps) e
+unserved_within ps (Refused i r) is = (let within = found_within 0 ps (record { «package» = i; refusal = r }) is in omega arith)
+unserved_within ps NoMemory is = tt

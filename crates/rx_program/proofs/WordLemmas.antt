@@ -1,11 +1,10 @@
 -- Names of words are names of packages and messages.
-use Rattle.std.proofs.Common.{◌≡◌, ℕ, ◌≤◌, Bool, true, false, not, ◌&&◌, List, [], ◌∷◌, Option, None, Some, IfSome, Result, Ok, Err, IfOk, refl, sym, subst}
+use Rattle.std.proofs.Common.{◌≡◌, ℕ, Bool, true, false, not, ◌&&◌, List, [], ◌∷◌, refl}
 use Rattle.std.specs.List.{list_all}
 use Rattle.rx_syntax.specs.Bytes.{is_letter, is_word_byte, is_name as is_joined}
 use Rattle.rx_words.specs.Names.{is_word, is_reserved, is_name}
 use Rattle.rx_types.specs.Names.{IsName}
-use Rattle.rx_program.specs.declared.words.Ask as code
-use Rattle.rx_program.proofs.NameLemmas.{name_of_word}
+use Rattle.rx_closure.proofs.NameLemmas.{name_of_word}
 
 letter_in_word : (b : ℕ) → is_letter b ≡ true → is_word_byte b ≡ true
 letter_in_word b letter = rw letter refl
@@ -24,9 +23,3 @@ word_bytes (b ∷ bs) word =
 -- a name of words is one of types
 pub name_is : (name : List ℕ) → is_name name ≡ true → IsName name
 name_is name is = name_of_word name (word_bytes name (both (is_word name) (not (is_reserved name)) is).0)
-
--- as many splits as words of a form ask for
-pub few_of_made : {E : Type 0} (n : ℕ) (res : Result (Option code.Ask) E) → (1 ≤ n) × (n ≤ 4096) → IfOk res (λ read. IfSome read (λ ask. ask.splits ≡ n)) → IfOk res (λ read. IfSome read (λ ask. (1 ≤ ask.splits) × (ask.splits ≤ 4096)))
-few_of_made n (Err e) few is = tt
-few_of_made n (Ok None) few is = tt
-few_of_made n (Ok (Some ask)) few is = subst (λ (k : ℕ). (1 ≤ k) × (k ≤ 4096)) (sym is) few

@@ -3,7 +3,7 @@
 use Rattle.std.specs.Prelude.{◌≡◌, ℕ, List, Some}
 use Rattle.rx_io.specs.Shelf.{Texts}
 use Rattle.rx_program.specs.Words.{Ask, asked_for, HaveNoForm}
-use Rattle.rx_program.specs.Closure.{HasNone, HasLong, HasRefused, IsClosure, Reaches, IsCrowded}
+use Rattle.rx_closure.specs.Closure.{HasNone, HasLong, HasRefused, IsClosure, Reaches, IsCrowded}
 use Rattle.rx_program.specs.Request.{Request, AnswersTo}
 use Rattle.rx_program.specs.declared.answer.Answer.{Answer}
 use Rattle.rx_program.specs.declared.answer.Answer.TheVariants.{Usage, ShelfFault, NoPackage, TextLimit, Refused, PackageLimit}

@@ -1,9 +1,5 @@
 pub mod Words
 pub mod Asked
-pub mod Names
-pub mod Refusals
-pub mod Closure
-pub mod Stop
 pub mod Soundness
 pub mod Stage
 pub mod Operand

@@ -2,7 +2,7 @@
 --   message_in name message ms     message `message` of package `name`
 use Rattle.std.specs.Prelude.{ℕ, Bool, ◌&&◌, List, [], ◌∷◌, Option, Some, None, if◌then◌else◌}
 use Rattle.rx_graph.specs.Graph.{Graph}
-use Rattle.rx_program.specs.Names.{is_same}
+use Rattle.rx_closure.specs.Names.{is_same}
 
 -- the message has this name, and its package that one, whatever the case of their letters
 abbrev pub is_of : List ℕ → List ℕ → Graph → Bool

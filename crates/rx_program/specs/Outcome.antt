@@ -1,12 +1,10 @@
 -- How an answer shows: the status, and the bytes that are written.
 use Rattle.std.specs.Prelude.{◌≡◌, ◌==◌, ℕ, List, [], ◌∷◌, ◌++◌, Option, Some, None, take, codes, if◌then◌else◌}
-use Rattle.std.specs.Str.{str_to_ascii_lowercase}
 use Rattle.rx_io.specs.Faults.{HasRisen}
 use Rattle.rx_io.specs.Shelf.{Texts}
 use Rattle.rx_program.specs.declared.status.Status.{Status}
 use Rattle.rx_program.specs.declared.status.Status.TheVariants.{Done, NotAccepted, Words, Specification, Undecided, InputRefused, SinkFault, Limit, NoMemory}
 use Rattle.rx_program.specs.declared.status.Status.TheVariants.{SourceFault as SourceStatus, ShelfFault as ShelfStatus}
-use Rattle.rx_syntax.specs.declared.token.Place.{Place}
 use Rattle.rx_types.specs.declared.stuck.Reason.{Reason}
 use Rattle.rx_types.specs.declared.stuck.Reason.TheVariants as reason
 use Rattle.rx_serial.specs.declared.fault.UnfitReason.{UnfitReason}
@@ -20,11 +18,7 @@ use Rattle.rx_program.specs.declared.answer.Encoding.{Encoding}
 use Rattle.rx_program.specs.declared.answer.Encoding.TheVariants.{Bytes, NotJson, NotObject, UnknownField, BadValue, Duplicate, Unsatisfied, Unused}
 use Rattle.rx_program.specs.declared.answer.Answer.{Answer}
 use Rattle.rx_program.specs.declared.answer.Answer.TheVariants.{Usage, ShelfFault, NoPackage, TextLimit, Refused, PackageLimit, Unserved, Broken, NoMessage, Checked, Rejected, SourceFault, InputLimit, Input, Output}
-use Rattle.rx_program.specs.declared.refusal.Cause.TheVariants.{Unsupported}
-use Rattle.rx_judge.specs.declared.fault.Refusal as judge
-use Rattle.rx_program.specs.declared.refusal.Refusal.{Refusal}
-use Rattle.rx_program.specs.Refusals.{refusal_text, breach_text}
-use Rattle.rx_program.specs.Stage.{word_of}
+use Rattle.rx_lines.specs.Lines.{line, file_of, name_text, refused_text}
 use Rattle.rx_program.specs.Answers.{Answers}
 
 -- NotAccepted where a check failed, else Undecided where one is undecided
@@ -51,8 +45,8 @@ status_of (NoPackage name) = Specification
 status_of (TextLimit file) = Limit
 status_of (Refused file refusal) = Specification
 status_of PackageLimit = Limit
-status_of (Unserved file unserved) = Specification
-status_of (Broken file breach) = Specification
+status_of (Unserved file refusal) = Specification
+status_of (Broken file refusal) = Specification
 status_of (NoMessage name message) = Specification
 status_of (Checked reported) = status_of_report reported
 status_of (Rejected reported) = status_of_rejected reported
@@ -61,36 +55,12 @@ status_of InputLimit = Limit
 status_of (Input decoding) = status_of_decoding decoding
 status_of (Output encoding) = status_of_encoding encoding
 
--- a line
-abbrev pub line : List ℕ → List ℕ
-line text = text ++ 10 ∷ []
-
--- the file of a package
-abbrev pub file_of : List ℕ → List ℕ
-file_of name = str_to_ascii_lowercase name ++ codes ".rflx"
-
--- `FILE:LINE:COLUMN: NUMBER NAME`, and the word
-abbrev pub refused_text : List ℕ → Refusal → List ℕ
-refused_text name refusal = line (file_of name ++ codes ":" ++ refusal_text refusal)
-
--- the same of a form that is not served yet, which is told by this word
-abbrev pub unsupported_text : List ℕ → Place → List ℕ → List ℕ
-unsupported_text name place word = refused_text name (record { place = place; cause = Unsupported word })
-
--- `FILE:LINE:COLUMN: NUMBER NAME WORD`
-abbrev pub broken_text : List ℕ → judge.Refusal → List ℕ
-broken_text name breach = line (file_of name ++ codes ":" ++ breach_text breach)
-
+-- the name of a reason
 abbrev pub reason_name : Reason → List ℕ
 reason_name reason.Condition = codes "Condition"
 reason_name reason.Trailing = codes "Trailing"
 reason_name reason.Short = codes "Short"
 reason_name reason.Value = codes "Value"
-
--- a space and the name, if there is one
-abbrev pub name_text : Option (List ℕ) → List ℕ
-name_text None = []
-name_text (Some name) = codes " " ++ name
 
 -- `refused: REASON FIELD`
 abbrev pub stuck_text : Reason → Option (List ℕ) → List ℕ
@@ -127,8 +97,8 @@ IsText (NoPackage name) text = text ≡ line (file_of name ++ codes ": 8 Unknown
 IsText (TextLimit name) text = text ≡ line (codes "limit: text " ++ file_of name)
 IsText (Refused name refusal) text = text ≡ refused_text name refusal
 IsText PackageLimit text = text ≡ line (codes "limit: packages")
-IsText (Unserved name unserved) text = text ≡ unsupported_text name unserved.place (word_of unserved.form)
-IsText (Broken name breach) text = text ≡ broken_text name breach
+IsText (Unserved name refusal) text = text ≡ refused_text name refusal
+IsText (Broken name refusal) text = text ≡ refused_text name refusal
 IsText (NoMessage name message) text = text ≡ line (file_of name ++ codes ": 8 UnknownName " ++ message)
 IsText (Checked reported) text = text ≡ reported.text.items
 IsText (Rejected reported) text = text ≡ reported.text.items

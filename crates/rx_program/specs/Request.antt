@@ -1,16 +1,18 @@
 -- What packages and an input answer to a request.
 --   Request                  what is asked for, and the packages of its closure
 --   TellsForm, TellsRule     why the packages are refused, and in which file
+--   AreMeant, IsFound        the specification and the message that the code has are these
 --   Means, Finds, Serves     what they mean, the message in it that is asked for, and that it is served: its checks pass, so it is sound
 --   AnswersTo r input a      the answers by cases
 use Rattle.std.specs.Prelude.{◌≡◌, ◌⊎◌, ℕ, ◌<◌, ◌≤◌, List, [], ◌∷◌, length, Some, None, Ok, Err, slice_get}
 use Rattle.rx_syntax.specs.declared.tree.PackageTree.{PackageTree}
 use Rattle.rx_graph.specs.Elaborated.{IsSound}
 use Rattle.rx_graph.specs.Graph.{Graph, Specified}
-use Rattle.rx_judge.specs.declared.fault.Refusal as judge
-use Rattle.rx_spec.specs.Elaboration.{elaborated}
+use Rattle.rx_syntax.specs.declared.rule.Refusal.{Refusal}
+use Rattle.rx_graph.specs.Typed.{Typed}
+use Rattle.rx_forms.specs.Checkable.{TypedMessages}
+use Rattle.rx_spec.specs.Elaboration.{elaborated, Told}
 use Rattle.rx_spec.specs.Laws.{domains_in}
-use Rattle.rx_spec.specs.declared.fault.Told.{Told}
 use Rattle.rx_values.specs.Laws.{AreNamed}
 use Rattle.rx_report.specs.declared.reported.Reported.{Reported}
 use Rattle.rx_report.specs.Reported.{messages_of, Passes, IsReported, HasOpen}
@@ -20,8 +22,7 @@ use Rattle.rx_program.specs.Words.{Does, Ask, Checks, Decodes, Encodes, message_
 use Rattle.rx_program.specs.Stage.{of_packages, AreServed}
 use Rattle.rx_program.specs.Operand.{message_in}
 use Rattle.rx_program.specs.Input.{input_limit, DecodesTo, EncodesTo}
-use Rattle.rx_program.specs.declared.stage.Unserved as stage
-use Rattle.rx_program.specs.declared.closure.Packages.{Packages}
+use Rattle.rx_closure.specs.declared.closure.Packages.{Packages}
 use Rattle.rx_program.specs.declared.answer.Answer.{Answer}
 use Rattle.rx_program.specs.declared.answer.Answer.TheVariants.{Unserved, Broken, NoMessage, Checked, Rejected, SourceFault, InputLimit, Input, Output}
 
@@ -37,17 +38,17 @@ request_of ask p = record { ask = ask; asked = p.asked.items; trees = p.trees.it
 
 module _ (r : Request) where
   -- the first form that is not served yet, and the package in whose text it stands
-  pub record TellsForm (file : List ℕ) (unserved : stage.Unserved) : Type 0 where
+  pub record TellsForm (file : List ℕ) (refusal : Refusal) : Type 0 where
     pub at : ℕ
-    pub first : of_packages 0 r.trees ≡ Some (record { «package» = at; unserved = unserved })
+    pub first : of_packages 0 r.trees ≡ Some (record { «package» = at; refusal = refusal })
     pub file_is : slice_get r.asked at ≡ Some file
 
   -- the rule that is broken first, and the package in whose text it is
-  pub record TellsRule (file : List ℕ) (breach : judge.Refusal) : Type 0 where
+  pub record TellsRule (file : List ℕ) (refusal : Refusal) : Type 0 where
     pub served : AreServed r.trees
     pub told : Told
     pub refused : elaborated r.asked r.trees ≡ Err told
-    pub breach_is : breach ≡ told.refusal
+    pub refusal_is : refusal ≡ told.refusal
     pub file_is : slice_get r.asked told.«package» ≡ Some file
 
   -- what the packages mean
@@ -68,6 +69,19 @@ module _ (r : Request) where
     pub name : List ℕ
     pub asked_is : message_asked r.ask.does ≡ Some name
     pub found : message_in r.ask.name name s.messages ≡ Some m
+
+  -- the specification is what the packages mean
+  pub record AreMeant (t : TypedMessages) : Type 0 where
+    pub spec : Specified
+    pub means : Means spec
+    pub types : t.domains ≡ domains_in spec
+    pub messages : t.graphs ≡ spec.messages
+
+  -- the message, with its scalar types, is the one that is asked for
+  pub record IsFound (t : Typed) : Type 0 where
+    pub spec : Specified
+    pub finds : Finds spec t.graph
+    pub types : t.domains ≡ domains_in spec
 
   -- all messages of the package are checked, and this is the report
   pub record ReportsAll (reported : Reported) : Type 0 where
@@ -99,8 +113,8 @@ module _ (r : Request) where
 
   -- the answer of the packages, and with this input
   abbrev pub AnswersTo : List ℕ → Answer → Type 0
-  AnswersTo input (Unserved file unserved) = TellsForm file unserved
-  AnswersTo input (Broken file breach) = TellsRule file breach
+  AnswersTo input (Unserved file refusal) = TellsForm file refusal
+  AnswersTo input (Broken file refusal) = TellsRule file refusal
   AnswersTo input (NoMessage name message) = (name ≡ r.ask.name) × Lacks message
   AnswersTo input (Checked reported) = ReportsAll reported
   AnswersTo input (Rejected reported) = ReportsOne reported
@@ -112,8 +126,8 @@ module _ (r : Request) where
 
 -- an answer to a request of packages that were all read
 abbrev pub IsOfRequest : Answer → Type 0
-IsOfRequest (Unserved file unserved) = Unit {0}
-IsOfRequest (Broken file breach) = Unit {0}
+IsOfRequest (Unserved file refusal) = Unit {0}
+IsOfRequest (Broken file refusal) = Unit {0}
 IsOfRequest (NoMessage name message) = Unit {0}
 IsOfRequest (Checked reported) = Unit {0}
 IsOfRequest (Rejected reported) = Unit {0}

@@ -14,7 +14,8 @@ use Rattle.rx_serial.specs.Laws.{AreBytes}
 use Rattle.rx_program.specs.Words.{Does, Decodes, Encodes, asked_for}
 use Rattle.rx_program.specs.Request.{Request, Serves}
 use Rattle.rx_program.specs.Answers.{Asks}
-use Rattle.rx_program.specs.Outcome.{FaultCounts, Outcome, line}
+use Rattle.rx_lines.specs.Lines.{line}
+use Rattle.rx_program.specs.Outcome.{FaultCounts, Outcome}
 use Rattle.rx_program.specs.declared.status.Status.TheVariants.{Done}
 
 -- the words ask for this of the package, with whatever number of splits

@@ -1,9 +1,7 @@
 //! What a command answers, before it is printed.
-use crate::refusal::Refusal;
-use crate::stage::Unserved;
-use rx_judge::Refusal as Breach;
 use rx_report::Reported;
 use rx_serial::UnfitReason;
+use rx_syntax::Refusal;
 use rx_types::{Name, Reason};
 
 /// What a buffer is of a message.
@@ -46,9 +44,9 @@ pub enum Answer {
     /// A 65th package is named.
     PackageLimit,
     /// The text of this package has a form that is not served yet.
-    Unserved(Name, Unserved),
+    Unserved(Name, Refusal),
     /// The text of this package breaks a rule.
-    Broken(Name, Breach),
+    Broken(Name, Refusal),
     /// The package has no message of the second name.
     NoMessage(Name, Name),
     /// The checks of all messages.

@@ -52,3 +52,9 @@ impl From<rx_encode::NoMemory> for NoMemory {
         NoMemory
     }
 }
+
+impl From<rx_lines::NoMemory> for NoMemory {
+    fn from(_: rx_lines::NoMemory) -> Self {
+        NoMemory
+    }
+}

@@ -3,13 +3,11 @@
 
 mod adapters;
 mod answer;
-mod closure;
 mod fault;
 mod inputs;
 pub mod laws;
 mod operand;
 mod print;
-mod refusal;
 mod serving;
 mod stage;
 mod status;

@@ -1,9 +1,11 @@
 //! The message that is asked for.
-ghost use Rattle.std.specs.Prelude.{◌≡◌, map, Some, None, IfSome, IfNone};
+ghost use Rattle.std.specs.Prelude.{◌≡◌, option_map};
 ghost use Rattle.rx_graph.specs.Graph.{graph_of};
-ghost use Rattle.rx_program.specs.Names.{is_same};
+ghost use Rattle.rx_graph.specs.Typed.{typed};
+ghost use Rattle.rx_closure.specs.Names.{is_same};
 ghost use Rattle.rx_program.specs.Operand.{is_of, message_in};
 
+use rx_forms::{Checkable, CheckableSpec};
 use rx_graph::Message;
 use rx_types::Name;
 
@@ -24,13 +26,14 @@ fn is_of(owner: &Name, name: &Name, message: &Message) -> bool
 }
 
 /// The message of a package by its name.
-pub fn find_message<'s>(messages: &'s [Message], owner: &Name, name: &Name) -> Option<&'s Message>
-    ensures some { IfSome result (λ m. message_in owner.now name.now (map graph_of messages.now) ≡ Some (graph_of m.now)) }
-    ensures none { IfNone result (message_in owner.now name.now (map graph_of messages.now) ≡ None) }
+pub fn find_message<'s>(spec: &'s CheckableSpec, owner: &Name, name: &Name) -> Option<Checkable<'s>>
+    ensures { result ≡ option_map (typed spec.now.domains) (message_in owner.now name.now spec.now.graphs) }
 {
-    for message in messages {
-        if is_of(owner, name, message) {
-            return Some(message);
+    for place in 0..spec.count() {
+        if let Some(message) = spec.message(place) {
+            if is_of(owner, name, message.elaborated().message()) {
+                return Some(message);
+            }
         }
     }
     None

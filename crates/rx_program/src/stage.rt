@@ -1,92 +1,74 @@
 //! The forms of texts that are not served yet.
-ghost use Rattle.std.specs.Prelude.{◌≡◌, Some};
+ghost use Rattle.std.specs.Prelude.{◌≡◌, Some, IfOk, IfErr, OnOk};
 ghost use Rattle.std.specs.Str.{IsAscii};
-ghost use Rattle.rx_program.specs.Stage.{word_of, of_definition, of_declaration, of_declarations, of_packages};
+ghost use Rattle.rx_program.specs.Stage.{unsupported, of_definition, of_declaration, of_declarations, AreServed, IsUnserved};
 
-use rx_syntax::{DeclKind, DeclTree, DefTree, PackageTree, Place};
+use crate::fault::NoMemory;
+use rx_spec::ElabFault;
+use rx_syntax::{DeclKind, DeclTree, DefTree, PackageTree, Place, Refusal, Rule, Word};
+use std::alloc::Global;
 
-/// A form that is not served yet.
-#[derive(Clone, Copy, Debug, PartialEq, Eq)]
-pub enum Form {
-    Sequence,
-    New,
-    For,
-}
-
-/// A form that is not served yet, and where it stands.
-#[derive(Clone, Copy, Debug, PartialEq, Eq)]
-pub struct Unserved {
-    pub form: Form,
-    pub place: Place,
-}
-
-/// A form that is not served yet, and the package in whose text it stands, by its place in the closure.
-#[derive(Clone, Copy, Debug, PartialEq, Eq)]
-pub struct Found {
-    pub package: usize,
-    pub unserved: Unserved,
-}
-
-impl Form {
-    /// The word by which it is told.
-    pub fn word(&self) -> &'static str
-        ensures word { result.now ≡ word_of self.now }
-        ensures ascii { IsAscii result.now }
-    {
-        match self {
-            Form::Sequence => "sequence",
-            Form::New => "new",
-            Form::For => "for",
-        }
-    }
-}
-
-// The form at a place.
-fn at(form: Form, place: Place) -> Option<Unserved>
-    ensures { result ≡ Some (record { form = form; place = place }) }
+// The refusal of a form that is told by this word.
+fn unsupported(alloc: Global, place: Place, word: &str) -> Result<Option<Refusal>, NoMemory>
+    requires { IsAscii word.now }
+    ensures { IfOk result (λ found. found ≡ Some (unsupported place word.now)) }
 {
-    Some(Unserved { form, place })
+    let word = Word::make(alloc, word)?;
+    Ok(Some(Refusal {
+        rule: Rule::Unsupported,
+        place,
+        word: Some(word),
+    }))
 }
 
-// The form of a definition, whose declaration begins at the place.
-fn of_definition(place: Place, definition: &DefTree) -> Option<Unserved>
-    ensures { result ≡ of_definition place definition.now }
+// The refusal of a definition, whose declaration begins at the place.
+fn of_definition(
+    alloc: Global,
+    place: Place,
+    definition: &DefTree,
+) -> Result<Option<Refusal>, NoMemory>
+    ensures { IfOk result (λ found. found ≡ of_definition place definition.now) }
 {
     match definition {
-        DefTree::Sequence(_) => at(Form::Sequence, place),
-        DefTree::Derived(_) => at(Form::New, place),
-        _ => None,
+        DefTree::Sequence(_) => unsupported(alloc, place, "sequence"),
+        DefTree::Derived(_) => unsupported(alloc, place, "new"),
+        _ => Ok(None),
     }
 }
 
-fn of_declaration(declaration: &DeclTree) -> Option<Unserved>
-    ensures { result ≡ of_declaration declaration.now }
+// The refusal of a declaration.
+fn of_declaration(alloc: Global, declaration: &DeclTree) -> Result<Option<Refusal>, NoMemory>
+    ensures { IfOk result (λ found. found ≡ of_declaration declaration.now) }
 {
     match &declaration.kind {
-        DeclKind::Refine(_) => at(Form::For, declaration.place),
-        DeclKind::Defined(_, definition) => of_definition(declaration.place, definition),
+        DeclKind::Refine(_) => unsupported(alloc, declaration.place, "for"),
+        DeclKind::Defined(_, definition) => of_definition(alloc, declaration.place, definition),
     }
 }
 
-fn of_declarations(declarations: &[DeclTree]) -> Option<Unserved>
-    ensures { result ≡ of_declarations declarations.now }
+// The refusal of the first of these declarations that has one.
+fn of_declarations(alloc: Global, declarations: &[DeclTree]) -> Result<Option<Refusal>, NoMemory>
+    ensures { IfOk result (λ found. found ≡ of_declarations declarations.now) }
 {
     for declaration in declarations {
-        if let Some(found) = of_declaration(declaration) {
-            return Some(found);
+        if let Some(found) = of_declaration(alloc, declaration)? {
+            return Ok(Some(found));
         }
     }
-    None
+    Ok(None)
 }
 
-/// The first form of the packages that is not served yet.
-pub fn first_unserved(packages: &[PackageTree]) -> Option<Found>
-    ensures { result ≡ of_packages 0 packages.now }
+/// Whether the packages have none of these forms; the first of them is the fault.
+pub fn all_served(alloc: Global, packages: &[PackageTree]) -> Result<(), ElabFault>
+    ensures served { OnOk result (AreServed packages.now) }
+    ensures refused { IfErr result (IsUnserved packages.now) }
 {
     for package in 0..packages.len() {
-        if let Some(unserved) = of_declarations(packages[package].decls.as_slice()) {
-            return Some(Found { package, unserved });
+        match of_declarations(alloc, packages[package].decls.as_slice()) {
+            Ok(None) => {}
+            Ok(Some(refusal)) => return Err(ElabFault::Refused { package, refusal }),
+            Err(NoMemory) => return Err(ElabFault::NoMemory),
         }
     }
-    None
+    Ok(())
 }

@@ -1,22 +1,22 @@
 //! The top call.
-ghost use Rattle.std.specs.Prelude.{◌≡◌, ◌≤◌, ℕ, List, map, Some, None, IfOk, IfSome, Ok, string_bytes};
+ghost use Rattle.std.specs.Prelude.{◌≡◌, ℕ, List, map, Some, None, IfOk, IfSome, Ok, string_bytes};
 ghost use Rattle.std.specs.Io.KnownBytes.{Appends, IsAtEnd};
 ghost use Rattle.rx_io.specs.Faults.{HasRisen};
 ghost use Rattle.rx_io.specs.Shelf.{Texts, SameTexts};
 ghost use Rattle.rx_program.specs.Words.{message_asked, asked_for, HaveNoForm, HaveInput, HaveNoInput};
 ghost use Rattle.rx_program.specs.Asked.{does_of, ask_of};
-ghost use Rattle.rx_program.specs.Stop.{Stops};
+ghost use Rattle.rx_closure.specs.Stop.{Stops};
 ghost use Rattle.rx_program.specs.Input.{IsOfAll, IsOfInput, IsOfWhole};
 ghost use Rattle.rx_program.specs.Answers.{Answers};
 ghost use Rattle.rx_program.specs.Outcome.{Outcome, MayRefuseWords, ReadsAll, LeavesInput};
 
 use crate::answer::Answer;
-use crate::closure::{Stop, close};
 use crate::fault::NoMemory;
 use crate::print::print;
 use crate::serving::answer_packages;
 use crate::status::Status;
 use crate::words::{Ask, read_words};
+use rx_closure::{Stop, close};
 use rx_io::{Shelf, Sink, Source};
 use rx_types::Name;
 use std::alloc::Global;
@@ -47,7 +47,6 @@ fn answer_ask<H: Shelf, I: Source>(
     shelf: &mut H,
     input: &mut I,
 ) -> Result<Answer, NoMemory>
-    requires { (1 ≤ ask.splits) × (ask.splits ≤ 4096) }
     ensures answers { IfOk result (λ answer. IfSome (H.texts shelf.old) (λ texts. IfSome (I.left input.old) (λ left.
         (words : List (List ℕ)) → asked_for words ≡ Some (ask_of ask) → Answers words texts left answer))) }
     ensures not_usage { result ≡ Ok Answer.Usage → ⊥ }

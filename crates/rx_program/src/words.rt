@@ -7,6 +7,7 @@ ghost use Rattle.rx_words.specs.Words.{HasNames};
 ghost use Rattle.rx_program.specs.Asked.{ask_of};
 
 use crate::fault::NoMemory;
+use rx_prover::Splits;
 use rx_types::Name;
 use rx_words::{Command, Request, WordsFault};
 use std::alloc::Global;
@@ -19,12 +20,12 @@ pub enum Does {
     Encodes(Name),
 }
 
-/// What is asked for: a package, and how many splits a query may take, 1 to 4,096.
+/// What is asked for: a package, and how many splits a query may take.
 #[derive(Debug, Drop)]
 pub struct Ask {
     pub name: Name,
     pub does: Does,
-    pub splits: u32,
+    pub splits: Splits,
 }
 
 // The name of this text.
@@ -37,12 +38,12 @@ fn name_of(alloc: Global, text: &str) -> Result<Name, NoMemory>
 
 // What a request asks for, if it is served.
 fn ask_by(alloc: Global, request: Request<'_>) -> Result<Option<Ask>, NoMemory>
-    requires { HasNames (wanted_of request).command }
+    requires names { HasNames (wanted_of request).command }
+    requires few { (1 ≤ (wanted_of request).splits) × ((wanted_of request).splits ≤ 4096) }
     ensures some { IfOk result (λ read. IfSome read (λ ask. ask_with (wanted_of request.entry).splits (wanted_of request.entry).command ≡ Some (ask_of ask))) }
-    ensures few { IfOk result (λ read. IfSome read (λ ask. ask.splits ≡ (wanted_of request.entry).splits)) }
     ensures none { IfOk result (λ read. IfNone read (ask_with (wanted_of request.entry).splits (wanted_of request.entry).command ≡ None)) }
 {
-    let splits = request.splits;
+    let splits = Splits::of(request.splits);
     match request.command {
         Command::Check { package } => {
             let name = name_of(alloc, package)?;
@@ -83,7 +84,6 @@ fn ask_by(alloc: Global, request: Request<'_>) -> Result<Option<Ask>, NoMemory>
 /// What the words after the program's own name ask for; nothing where they have no form that is served.
 pub fn read_words(alloc: Global, words: &[String]) -> Result<Option<Ask>, NoMemory>
     ensures some { IfOk result (λ read. IfSome read (λ ask. asked_for (map string_bytes words.now) ≡ Some (ask_of ask))) }
-    ensures few { IfOk result (λ read. IfSome read (λ ask. (1 ≤ ask.splits) × (ask.splits ≤ 4096))) }
     ensures none { IfOk result (λ read. IfNone read (HaveNoForm (map string_bytes words.now))) }
 {
     match rx_words::read_words(alloc, words) {

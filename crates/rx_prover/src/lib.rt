@@ -5,6 +5,7 @@ mod answer;
 mod fault;
 mod pending;
 mod proving;
+mod splits;
 mod tree;
 mod walked;
 mod walking;
@@ -12,6 +13,7 @@ mod walking;
 pub use answer::Answer;
 pub use fault::NoMemory;
 pub use proving::prove;
+pub use splits::Splits;
 pub use tree::OpenTree;
 
 #[cfg(test)]

@@ -1,11 +1,11 @@
 -- Reports of messages, one behind the other.
-use Rattle.std.proofs.Common.{◌≡◌, refl, sym, ap, ◌∙◌, subst, ℕ, zero, suc, ◌+◌, ◌<◌, ◌≤◌, arith, Bool, true, false, List, [], ◌∷◌, ◌++◌, map, length, get_or, take, cond}
-use Rattle.std.specs.List.{AllByRecursion, filter}
+use Rattle.std.proofs.Common.{◌≡◌, refl, sym, ap, ◌∙◌, subst, ℕ, zero, suc, ◌+◌, ◌<◌, ◌≤◌, arith, Bool, true, false, List, [], ◌∷◌, ◌++◌, length, take, cond, Option, Some, None, option_map, slice_get}
+use Rattle.std.specs.List.{filter}
 use Rattle.std.specs.Str.{str_eq_ignore_ascii_case}
-use Rattle.std.proofs.lemmas.List.{append-nil, append_assoc, map-append, take_more, take_all}
+use Rattle.std.proofs.lemmas.List.{append-nil, append_assoc, take_all}
 use Rattle.rx_types.specs.Domain.{Domain}
-use Rattle.rx_graph.specs.declared.message.Message.{Message}
-use Rattle.rx_graph.specs.Graph.{Graph, graph_of}
+use Rattle.rx_graph.specs.Graph.{Graph}
+use Rattle.rx_graph.specs.Typed.{Typed, typed}
 use Rattle.rx_checks.specs.declared.report.Report.{Report}
 use Rattle.rx_checks.specs.Reports.{IsReport}
 use Rattle.rx_report.specs.declared.reported.Reported.{Reported}
@@ -76,19 +76,34 @@ filter_last p (n ∷ ms) m = elim (p n) as (λ b. cond b (n ∷ filter p (ms ++ 
   | false ↦ filter_last p ms m
 ]
 
-pub messages_next : (name : List ℕ) (ms : List Message) (i : ℕ) (m : Message) (b : Bool) → i < length ms → m ≡ get_or ms i m → b ≡ str_eq_ignore_ascii_case m.«package» name → messages_of name (map graph_of (take i ms)) ++ cond b (graph_of m ∷ []) [] ≡ messages_of name (map graph_of (take (i + 1) ms))
-messages_next name ms i m b within is test =
+-- one message more
+take_next : (ms : List Graph) (i : ℕ) (m : Graph) → slice_get ms i ≡ Some m → take (suc i) ms ≡ take i ms ++ m ∷ []
+take_next [] i m is = absurd (cc)
+take_next (n ∷ ms) zero m is = cc
+take_next (n ∷ ms) (suc i) m is = ap (λ (t : List Graph). n ∷ t) (take_next ms i m is)
+
+pub messages_next : (name : List ℕ) (ms : List Graph) (i : ℕ) (m : Graph) → slice_get ms i ≡ Some m → messages_of name (take i ms) ++ cond (str_eq_ignore_ascii_case m.«package» name) (m ∷ []) [] ≡ messages_of name (take (i + 1) ms)
+messages_next name ms i m is =
+    let one : i + 1 ≡ suc i = omega arith in
     sym
-    (ap (λ (ns : List Message). messages_of name (map graph_of ns)) (take_more ms i m within)
-    ∙ ap (messages_of name) (map-append graph_of (take i ms) (get_or ms i m ∷ []))
-    ∙ filter_last (λ n. str_eq_ignore_ascii_case n.«package» name) (map graph_of (take i ms)) (graph_of (get_or ms i m))
-    ∙ ap (λ (n : Message). messages_of name (map graph_of (take i ms)) ++ cond (str_eq_ignore_ascii_case n.«package» name) (graph_of n ∷ []) []) (sym is)
-    ∙ ap (λ (t : Bool). messages_of name (map graph_of (take i ms)) ++ cond t (graph_of m ∷ []) []) (sym test))
+    (ap (λ (k : ℕ). messages_of name (take k ms)) one
+    ∙ ap (messages_of name) (take_next ms i m is)
+    ∙ filter_last (λ n. str_eq_ignore_ascii_case n.«package» name) (take i ms) m)
 
-pub messages_all : (name : List ℕ) (ms : List Message) (i : ℕ) → length ms ≤ i → messages_of name (map graph_of (take i ms)) ≡ messages_of name (map graph_of ms)
-messages_all name ms i end = ap (λ (ns : List Message). messages_of name (map graph_of ns)) (take_all i ms end)
+pub messages_all : (name : List ℕ) (ms : List Graph) (i : ℕ) → length ms ≤ i → messages_of name (take i ms) ≡ messages_of name ms
+messages_all name ms i end = ap (messages_of name) (take_all i ms end)
 
-pub all_at : (P : Graph → Type 0) (ms : List Message) (i : ℕ) (m d : Message) → AllByRecursion P (map graph_of ms) → i < length ms → m ≡ get_or ms i d → P (graph_of m)
-all_at P [] i m d all within is = absurd (omega arith)
-all_at P (n ∷ ms) zero m d all within is = subst (λ (x : Message). P (graph_of x)) (sym is) all.0
-all_at P (n ∷ ms) (suc i) m d all within is = let less : i < length ms = omega arith in all_at P ms i m d all.1 less is
+-- there is a message at each place below their number
+pub message_there : (ms : List Graph) (i : ℕ) → i < length ms → (m : Graph) × (slice_get ms i ≡ Some m)
+message_there [] i within = absurd (omega arith)
+message_there (m ∷ ms) zero within = (m, refl)
+message_there (m ∷ ms) (suc i) within = let less : i < length ms = omega arith in message_there ms i less
+
+-- the message that stands at a place, as a value with its scalar types
+pub one_there : (domains : List Domain) (o : Option Graph) (t : Typed) (m : Graph) → Some t ≡ option_map (typed domains) o → o ≡ Some m → t ≡ typed domains m
+one_there domains None t m found is = absurd (cc)
+one_there domains (Some n) t m found is = cc
+
+pub none_there : (domains : List Domain) (o : Option Graph) (m : Graph) → None ≡ option_map (typed domains) o → o ≡ Some m → ⊥
+none_there domains None m found is = absurd (cc)
+none_there domains (Some n) m found is = absurd (cc)

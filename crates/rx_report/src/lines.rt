@@ -1,7 +1,6 @@
 //! The lines of a message.
 
-ghost use Rattle.std.specs.Prelude.{◌≡◌, ◌≤◌, ◌^◌, ◌++◌, OnOk, codes, length};
-ghost use Rattle.rx_graph.specs.Graph.{domains_of, graph_of};
+ghost use Rattle.std.specs.Prelude.{◌≡◌, ◌≤◌, ◌++◌, OnOk, codes, length};
 ghost use Rattle.rx_layout.specs.declared.goal.Goal.{Goal};
 ghost use Rattle.rx_report.specs.Subjects.{check_name, subject_text};
 ghost use Rattle.rx_report.specs.Lines.{counted, line_text, lines_text, with_verdict};
@@ -13,14 +12,16 @@ use crate::subject::{check_name, put_subject};
 use crate::text::put;
 use crate::verdict::put_verdict;
 use rx_checks::Line;
-use rx_graph::{Message, Spec};
+use rx_graph::Elaborated;
 use rx_layout::Goal;
+use rx_prover::Splits;
 use std::alloc::Global;
 
 // Puts the name of a message at the end.
-fn put_message(text: &mut Vec<u8>, message: &Message) -> Result<(), NoMemory>
-    ensures { OnOk result (text.new.items ≡ text.old.items ++ (message.now.«package» ++ codes "::" ++ message.now.name ++ codes " ")) }
+fn put_message(text: &mut Vec<u8>, message: &Elaborated<'_>) -> Result<(), NoMemory>
+    ensures { OnOk result (text.new.items ≡ text.old.items ++ (message.now.graph.«package» ++ codes "::" ++ message.now.graph.name ++ codes " ")) }
 {
+    let message = message.message();
     put(text, message.package.bytes())?;
     put(text, b"::")?;
     put(text, message.name.bytes())?;
@@ -31,10 +32,10 @@ fn put_message(text: &mut Vec<u8>, message: &Message) -> Result<(), NoMemory>
 fn put_check(
     alloc: Global,
     text: &mut Vec<u8>,
-    message: &Message,
+    message: &Elaborated<'_>,
     goal: Goal,
 ) -> Result<(), NoMemory>
-    ensures { OnOk result (text.new.items ≡ text.old.items ++ (check_name goal ++ codes " " ++ subject_text (graph_of message.now) goal ++ codes ": ")) }
+    ensures { OnOk result (text.new.items ≡ text.old.items ++ (check_name goal ++ codes " " ++ subject_text message.now.graph goal ++ codes ": ")) }
 {
     put(text, check_name(goal).as_bytes())?;
     put(text, b" ")?;
@@ -46,36 +47,32 @@ fn put_check(
 fn put_line(
     alloc: Global,
     text: &mut Vec<u8>,
-    spec: &Spec,
-    message: &Message,
-    splits: u32,
+    message: &Elaborated<'_>,
+    splits: Splits,
     line: &Line,
 ) -> Result<(), NoMemory>
-    requires { length (graph_of message.now).fields ≤ 2 ^ 16 }
-    ensures { OnOk result (text.new.items ≡ text.old.items ++ line_text (domains_of spec.now) (graph_of message.now) splits line.now) }
+    ensures { OnOk result (text.new.items ≡ text.old.items ++ line_text message.now.domains message.now.graph splits line.now) }
 {
     put_message(text, message)?;
     put_check(alloc, text, message, line.goal)?;
-    put_verdict(alloc, text, spec, message, splits, &line.verdict)?;
+    put_verdict(alloc, text, message, splits, &line.verdict)?;
     put(text, b"\n")
 }
 
 // Adds the line of a check, and counts it.
 fn add_line(
     alloc: Global,
-    spec: &Spec,
-    message: &Message,
-    splits: u32,
+    message: &Elaborated<'_>,
+    splits: Splits,
     line: &Line,
     reported: &mut Reported,
 ) -> Result<(), NoMemory>
-    requires few { length (graph_of message.now).fields ≤ 2 ^ 16 }
     requires bounded { total_in reported.old ≤ length reported.old.text.items }
-    ensures text { OnOk result (reported.new.text.items ≡ reported.old.text.items ++ line_text (domains_of spec.now) (graph_of message.now) splits line.now) }
+    ensures text { OnOk result (reported.new.text.items ≡ reported.old.text.items ++ line_text message.now.domains message.now.graph splits line.now) }
     ensures counts { OnOk result (counts_in reported.new ≡ with_verdict line.now.verdict (counts_in reported.old)) }
     ensures bounded { OnOk result (total_in reported.new ≤ length reported.new.text.items) }
 {
-    put_line(alloc, &mut reported.text, spec, message, splits, line)?;
+    put_line(alloc, &mut reported.text, message, splits, line)?;
     reported.count(&line.verdict);
     Ok(())
 }
@@ -83,20 +80,18 @@ fn add_line(
 /// Adds the lines of a message, and counts them.
 pub(crate) fn add_lines(
     alloc: Global,
-    spec: &Spec,
-    message: &Message,
-    splits: u32,
+    message: &Elaborated<'_>,
+    splits: Splits,
     lines: &[Line],
     reported: &mut Reported,
 ) -> Result<(), NoMemory>
-    requires few { length (graph_of message.now).fields ≤ 2 ^ 16 }
     requires bounded { total_in reported.old ≤ length reported.old.text.items }
-    ensures text { OnOk result (reported.new.text.items ≡ reported.old.text.items ++ lines_text (domains_of spec.now) (graph_of message.now) splits lines.now) }
+    ensures text { OnOk result (reported.new.text.items ≡ reported.old.text.items ++ lines_text message.now.domains message.now.graph splits lines.now) }
     ensures counts { OnOk result (counts_in reported.new ≡ counted lines.now (counts_in reported.old)) }
     ensures bounded { OnOk result (total_in reported.new ≤ length reported.new.text.items) }
 {
     for line in lines {
-        add_line(alloc, spec, message, splits, line, reported)?;
+        add_line(alloc, message, splits, line, reported)?;
     }
     Ok(())
 }

@@ -1,34 +1,15 @@
 //! Paths as text: the numbers of their links, each among those of its node.
 
-ghost use Rattle.std.specs.Prelude.{◌≡◌, ◌≤◌, ◌++◌, OnOk, count_by, length, option_map, slice_get, take};
+ghost use Rattle.std.specs.Prelude.{◌≡◌, ◌≤◌, ◌++◌, OnOk, count_by, length, take};
 ghost use Rattle.std.specs.List.{flat_map};
 ghost use Rattle.rx_graph.specs.Checks.{is_node};
-ghost use Rattle.rx_graph.specs.Graph.{arrow_of, arrows, graph_of};
+ghost use Rattle.rx_graph.specs.Graph.{arrows};
 ghost use Rattle.rx_report.specs.Subjects.{link_number, path_text, step_text};
 
 use crate::fault::NoMemory;
 use crate::text::{put, put_number};
-use rx_graph::{Link, Message, Node};
+use rx_graph::{Elaborated, Link, Node};
 use std::alloc::Global;
-
-/// The link at a place in the message's list of links.
-pub(crate) fn link_at<'a>(message: &'a Message, place: u16) -> Option<&'a Link>
-    ensures { option_map (λ l. arrow_of l.now) result ≡ slice_get (graph_of message.entry.now).links place }
-{
-    message.links.get(place as usize)
-}
-
-// Whether two nodes are one.
-fn is_same(left: Node, right: Node) -> bool
-    ensures { result ≡ is_node left right }
-{
-    match (left, right) {
-        (Node::Start, Node::Start) => true,
-        (Node::At(one), Node::At(other)) => one == other,
-        (Node::Null, Node::Null) => true,
-        _ => false,
-    }
-}
 
 // How many of the links lead from the node.
 fn count_from(links: &[Link], node: Node) -> usize
@@ -37,7 +18,7 @@ fn count_from(links: &[Link], node: Node) -> usize
 {
     let mut count = 0;
     for link in links {
-        if is_same(node, link.source) {
+        if node.is(link.source) {
             count += 1;
         }
     }
@@ -54,12 +35,12 @@ fn count_before(links: &[Link], place: usize, node: Node) -> usize
 }
 
 // The number of a link among those of its node, from 1.
-fn link_number(message: &Message, place: u16) -> u64
-    ensures { result ≡ link_number (graph_of message.now) place }
+fn link_number(message: &Elaborated<'_>, place: u16) -> u64
+    ensures { result ≡ link_number message.now.graph place }
 {
-    match link_at(message, place) {
+    match message.link(place) {
         Some(link) => {
-            let before = count_before(message.links.as_slice(), place as usize, link.source);
+            let before = count_before(message.links(), place as usize, link.source);
             before as u64 + 1
         }
         None => 0,
@@ -70,10 +51,10 @@ fn link_number(message: &Message, place: u16) -> u64
 fn put_step(
     alloc: Global,
     text: &mut Vec<u8>,
-    message: &Message,
+    message: &Elaborated<'_>,
     place: u16,
 ) -> Result<(), NoMemory>
-    ensures { OnOk result (text.new.items ≡ text.old.items ++ step_text (graph_of message.now) place) }
+    ensures { OnOk result (text.new.items ≡ text.old.items ++ step_text message.now.graph place) }
 {
     put(text, b".")?;
     put_number(alloc, text, link_number(message, place))
@@ -83,10 +64,10 @@ fn put_step(
 fn put_steps(
     alloc: Global,
     text: &mut Vec<u8>,
-    message: &Message,
+    message: &Elaborated<'_>,
     path: &[u16],
 ) -> Result<(), NoMemory>
-    ensures { OnOk result (text.new.items ≡ text.old.items ++ flat_map (step_text (graph_of message.now)) path.now) }
+    ensures { OnOk result (text.new.items ≡ text.old.items ++ flat_map (step_text message.now.graph) path.now) }
 {
     for place in path {
         put_step(alloc, text, message, *place)?;
@@ -98,10 +79,10 @@ fn put_steps(
 pub(crate) fn put_path(
     alloc: Global,
     text: &mut Vec<u8>,
-    message: &Message,
+    message: &Elaborated<'_>,
     path: &[u16],
 ) -> Result<(), NoMemory>
-    ensures { OnOk result (text.new.items ≡ text.old.items ++ path_text (graph_of message.now) path.now) }
+    ensures { OnOk result (text.new.items ≡ text.old.items ++ path_text message.now.graph path.now) }
 {
     let Some((first, rest)) = path.split_first() else {
         return put(text, b"-");

@@ -1,14 +1,13 @@
 //! Checks and their subjects as text.
 
 ghost use Rattle.std.specs.Prelude.{◌≡◌, ◌++◌, OnOk, codes, decimal};
-ghost use Rattle.rx_graph.specs.Graph.{graph_of};
 ghost use Rattle.rx_layout.specs.declared.goal.Goal.{Goal};
 ghost use Rattle.rx_values.specs.Printing.{name_of};
 ghost use Rattle.rx_report.specs.Subjects.{check_name, link_text, node_text, subject_text};
 
 use crate::fault::NoMemory;
 use crate::text::{put, put_number};
-use rx_graph::{Message, Node};
+use rx_graph::{Elaborated, Node};
 use rx_layout::Goal;
 use rx_types::FieldId;
 use std::alloc::Global;
@@ -30,18 +29,18 @@ pub(crate) fn check_name(goal: Goal) -> &'static str
 }
 
 // Puts the name of a field at the end.
-fn put_field(text: &mut Vec<u8>, message: &Message, field: FieldId) -> Result<(), NoMemory>
-    ensures { OnOk result (text.new.items ≡ text.old.items ++ name_of (graph_of message.now) field) }
+fn put_field(text: &mut Vec<u8>, message: &Elaborated<'_>, field: FieldId) -> Result<(), NoMemory>
+    ensures { OnOk result (text.new.items ≡ text.old.items ++ name_of message.now.graph field) }
 {
-    match message.fields.get(field as usize) {
+    match message.fields().get(field as usize) {
         Some(field) => put(text, field.name.bytes()),
         None => put(text, b""),
     }
 }
 
 // Puts a node at the end.
-fn put_node(text: &mut Vec<u8>, message: &Message, node: Node) -> Result<(), NoMemory>
-    ensures { OnOk result (text.new.items ≡ text.old.items ++ node_text (graph_of message.now) node) }
+fn put_node(text: &mut Vec<u8>, message: &Elaborated<'_>, node: Node) -> Result<(), NoMemory>
+    ensures { OnOk result (text.new.items ≡ text.old.items ++ node_text message.now.graph node) }
 {
     match node {
         Node::Start => put(text, b"-"),
@@ -62,11 +61,11 @@ fn put_spaced(alloc: Global, text: &mut Vec<u8>, number: u16) -> Result<(), NoMe
 fn put_link(
     alloc: Global,
     text: &mut Vec<u8>,
-    message: &Message,
+    message: &Elaborated<'_>,
     node: Node,
     number: u16,
 ) -> Result<(), NoMemory>
-    ensures { OnOk result (text.new.items ≡ text.old.items ++ link_text (graph_of message.now) node number) }
+    ensures { OnOk result (text.new.items ≡ text.old.items ++ link_text message.now.graph node number) }
 {
     put_node(text, message, node)?;
     put_spaced(alloc, text, number)
@@ -76,12 +75,12 @@ fn put_link(
 fn put_links(
     alloc: Global,
     text: &mut Vec<u8>,
-    message: &Message,
+    message: &Elaborated<'_>,
     node: Node,
     one: u16,
     other: u16,
 ) -> Result<(), NoMemory>
-    ensures { OnOk result (text.new.items ≡ text.old.items ++ subject_text (graph_of message.now) (Goal.Exclusive node one other)) }
+    ensures { OnOk result (text.new.items ≡ text.old.items ++ subject_text message.now.graph (Goal.Exclusive node one other)) }
 {
     put_link(alloc, text, message, node, one)?;
     put_spaced(alloc, text, other)
@@ -91,10 +90,10 @@ fn put_links(
 pub(crate) fn put_subject(
     alloc: Global,
     text: &mut Vec<u8>,
-    message: &Message,
+    message: &Elaborated<'_>,
     goal: Goal,
 ) -> Result<(), NoMemory>
-    ensures { OnOk result (text.new.items ≡ text.old.items ++ subject_text (graph_of message.now) goal) }
+    ensures { OnOk result (text.new.items ≡ text.old.items ++ subject_text message.now.graph goal) }
 {
     match goal {
         Goal::Exclusive(node, one, other) => put_links(alloc, text, message, node, one, other),

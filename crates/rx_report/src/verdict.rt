@@ -1,7 +1,6 @@
 //! Verdicts as text.
 
-ghost use Rattle.std.specs.Prelude.{◌≡◌, ◌≤◌, ◌^◌, ◌++◌, OnOk, codes, decimal, length};
-ghost use Rattle.rx_graph.specs.Graph.{domains_of, graph_of};
+ghost use Rattle.std.specs.Prelude.{◌≡◌, ◌++◌, OnOk, codes, decimal, length};
 ghost use Rattle.rx_values.specs.Printing.{json_text};
 ghost use Rattle.rx_checks.specs.Steps.{total_steps};
 ghost use Rattle.rx_report.specs.Subjects.{path_text, values_along};
@@ -13,9 +12,10 @@ use crate::steps::total_steps;
 use crate::text::{put, put_counted};
 use crate::values::values_along;
 use rx_checks::{Evidence, Verdict};
-use rx_graph::{Message, Spec};
+use rx_graph::Elaborated;
 use rx_proof::Proof;
-use rx_values::to_json;
+use rx_prover::Splits;
+use rx_values::json_of;
 use std::alloc::Global;
 
 // Puts how many steps the proofs have at the end. Each step stands in memory, so there are no more than a word counts.
@@ -41,16 +41,14 @@ fn put_proofs(alloc: Global, text: &mut Vec<u8>, proofs: &[Proof]) -> Result<(),
 fn put_values(
     alloc: Global,
     text: &mut Vec<u8>,
-    spec: &Spec,
-    message: &Message,
+    message: &Elaborated<'_>,
     path: &[u16],
     numbers: &[u64],
 ) -> Result<(), NoMemory>
-    requires { length (graph_of message.now).fields ≤ 2 ^ 16 }
-    ensures { OnOk result (text.new.items ≡ text.old.items ++ json_text (domains_of spec.now) (graph_of message.now) (values_along (domains_of spec.now) (graph_of message.now) path.now numbers.now)) }
+    ensures { OnOk result (text.new.items ≡ text.old.items ++ json_text message.now.domains message.now.graph (values_along message.now.domains message.now.graph path.now numbers.now)) }
 {
-    let values = values_along(alloc, message, spec, path, numbers)?;
-    let json = to_json(alloc, message, spec, &values)?;
+    let values = values_along(alloc, message, path, numbers)?;
+    let json = json_of(alloc, message, &values)?;
     put(text, json.as_slice())
 }
 
@@ -58,11 +56,11 @@ fn put_values(
 fn put_end(
     alloc: Global,
     text: &mut Vec<u8>,
-    message: &Message,
+    message: &Elaborated<'_>,
     path: &[u16],
     length: u32,
 ) -> Result<(), NoMemory>
-    ensures { OnOk result (text.new.items ≡ text.old.items ++ (codes " on " ++ path_text (graph_of message.now) path.now ++ codes " length " ++ decimal length ++ codes " ")) }
+    ensures { OnOk result (text.new.items ≡ text.old.items ++ (codes " on " ++ path_text message.now.graph path.now ++ codes " length " ++ decimal length ++ codes " ")) }
 {
     put(text, b" on ")?;
     put_path(alloc, text, message, path)?;
@@ -74,12 +72,10 @@ fn put_end(
 fn put_evidence(
     alloc: Global,
     text: &mut Vec<u8>,
-    spec: &Spec,
-    message: &Message,
+    message: &Elaborated<'_>,
     evidence: &Evidence,
 ) -> Result<(), NoMemory>
-    requires { length (graph_of message.now).fields ≤ 2 ^ 16 }
-    ensures { OnOk result (text.new.items ≡ text.old.items ++ evidence_text (domains_of spec.now) (graph_of message.now) evidence.now) }
+    ensures { OnOk result (text.new.items ≡ text.old.items ++ evidence_text message.now.domains message.now.graph evidence.now) }
 {
     match evidence {
         Evidence::Proofs(proofs) => put_proofs(alloc, text, proofs.as_slice()),
@@ -89,7 +85,7 @@ fn put_evidence(
             numbers,
         } => {
             put_end(alloc, text, message, path.links(), *length)?;
-            put_values(alloc, text, spec, message, path.links(), numbers.as_slice())
+            put_values(alloc, text, message, path.links(), numbers.as_slice())
         }
     }
 }
@@ -98,41 +94,37 @@ fn put_evidence(
 fn put_shown(
     alloc: Global,
     text: &mut Vec<u8>,
-    spec: &Spec,
-    message: &Message,
+    message: &Elaborated<'_>,
     word: &[u8],
     evidence: &Evidence,
 ) -> Result<(), NoMemory>
-    requires { length (graph_of message.now).fields ≤ 2 ^ 16 }
-    ensures { OnOk result (text.new.items ≡ text.old.items ++ (word.now ++ evidence_text (domains_of spec.now) (graph_of message.now) evidence.now)) }
+    ensures { OnOk result (text.new.items ≡ text.old.items ++ (word.now ++ evidence_text message.now.domains message.now.graph evidence.now)) }
 {
     put(text, word)?;
-    put_evidence(alloc, text, spec, message, evidence)
+    put_evidence(alloc, text, message, evidence)
 }
 
 // Puts after how many splits a check is undecided at the end.
-fn put_undecided(alloc: Global, text: &mut Vec<u8>, splits: u32) -> Result<(), NoMemory>
+fn put_undecided(alloc: Global, text: &mut Vec<u8>, splits: Splits) -> Result<(), NoMemory>
     ensures { OnOk result (text.new.items ≡ text.old.items ++ (codes "Undecided after " ++ decimal splits ++ codes " splits")) }
 {
     put(text, b"Undecided after ")?;
-    put_counted(alloc, text, u64::from(splits), b" splits")
+    put_counted(alloc, text, u64::from(splits.count()), b" splits")
 }
 
 /// Puts what became of a check at the end.
 pub(crate) fn put_verdict(
     alloc: Global,
     text: &mut Vec<u8>,
-    spec: &Spec,
-    message: &Message,
-    splits: u32,
+    message: &Elaborated<'_>,
+    splits: Splits,
     verdict: &Verdict,
 ) -> Result<(), NoMemory>
-    requires { length (graph_of message.now).fields ≤ 2 ^ 16 }
-    ensures { OnOk result (text.new.items ≡ text.old.items ++ verdict_text (domains_of spec.now) (graph_of message.now) splits verdict.now) }
+    ensures { OnOk result (text.new.items ≡ text.old.items ++ verdict_text message.now.domains message.now.graph splits verdict.now) }
 {
     match verdict {
-        Verdict::Passed(evidence) => put_shown(alloc, text, spec, message, b"Passed", evidence),
-        Verdict::Failed(evidence) => put_shown(alloc, text, spec, message, b"Failed", evidence),
+        Verdict::Passed(evidence) => put_shown(alloc, text, message, b"Passed", evidence),
+        Verdict::Failed(evidence) => put_shown(alloc, text, message, b"Failed", evidence),
         Verdict::Undecided { .. } => put_undecided(alloc, text, splits),
     }
 }

@@ -6,6 +6,7 @@ use Rattle.std.specs.List.{list_any, AllByRecursion}
 use Rattle.std.specs.Str.{bytes_eq}
 use Rattle.std.proofs.lemmas.Slice.Eq.{bytes_eq-Decides}
 use Rattle.rx_syntax.specs.declared.tree.Named.{Named}
+use Rattle.rx_syntax.specs.declared.rule.Rule.TheVariants as rule
 use Rattle.rx_types.specs.Domain.{EachPair}
 use Rattle.rx_types.specs.Names.{IsSameName}
 use Rattle.rx_judge.specs.Meaning.{refused_at}
@@ -68,7 +69,7 @@ none_fresh known = record { new = tt; apart = tt }
 pub more_fresh : (known : Known) (a : List ℕ) (ws : List (List ℕ)) → IsNew known a → Fresh (knowing a known) ws → Fresh known (a ∷ ws)
 more_fresh known a ws h f = let c = apart_all known a ws h f.new in record { new = (h, c.0); apart = (c.1, f.apart) }
 
-fresh_if : (b : Bool) (name : Named) (known after : Known) → (if b then refused_at 9 name else Ok known) ≡ Ok after → (b ≡ false) × (after ≡ known)
+fresh_if : (b : Bool) (name : Named) (known after : Known) → (if b then refused_at rule.NameClash name else Ok known) ≡ Ok after → (b ≡ false) × (after ≡ known)
 fresh_if true name known after h = absurd (err_differs _ _ h)
 fresh_if false name known after h = (refl, sym (ok_same known after h))
 

@@ -15,6 +15,7 @@ use Rattle.rx_syntax.specs.declared.tree.DeclTree.{DeclTree}
 use Rattle.rx_syntax.specs.declared.tree.HeaderTree.{HeaderTree}
 use Rattle.rx_syntax.specs.declared.tree.MessageTree.{MessageTree}
 use Rattle.rx_syntax.specs.declared.tree.PackageTree.{PackageTree}
+use Rattle.rx_syntax.specs.declared.rule.Rule.TheVariants as rule
 use Rattle.rx_types.specs.Domain.{Domain, EachPair}
 use Rattle.rx_types.specs.Names.{IsSameName}
 use Rattle.rx_graph.specs.declared.message.Field.{Field}
@@ -37,7 +38,7 @@ use Rattle.rx_spec.specs.Laws.{IsSoundSpec, ElaborationIsSound}
 use Rattle.rx_spec.specs.Limit.{domains_known, within_limit}
 use Rattle.rx_spec.specs.Messages.{scope_in, message_made, message_of, Body, graph_named, null_body, null_made, null_message, with_message, definition_meant, kind_meant, declaration_meant, package_messages}
 use Rattle.rx_spec.specs.Ready.{MakesElaborated, KindMakes, DeclarationMakes, PackageMakes, AreReadyOnceTyped}
-use Rattle.rx_spec.specs.declared.fault.SpecFault.{SpecFault}
+use Rattle.rx_spec.specs.declared.fault.ElabFault.{ElabFault}
 use Rattle.rx_spec.proofs.Domains.{domains_of, Lists, types_list, declarations_stand, in_package_ok}
 use Rattle.rx_spec.proofs.FieldNames.{field_names_apart}
 use Rattle.rx_spec.proofs.Holding.{fields_stand, fields_elaborated}
@@ -140,7 +141,7 @@ module _ (t : Types) where
   within_good : (name : Named) (g g' : Graph) → IsElaborated (domains_known t) g → within_limit t name g ≡ Ok g' → IsGood g'
   unfolding within_limit
   within_good name g g' l e =
-      let kept = taken (keeps_limit (domains_known t) g) (Ok g) g' (record { number = 21; place = name.place; name = name.word }) e in
+      let kept = taken (keeps_limit (domains_known t) g) (Ok g) g' (record { rule = rule.GraphLimit; place = name.place; word = Some name.word }) e in
       let good : IsGood g = record { elaborated = l; limit = limit_kept (domains_known t) g l kept.0 } in
       subst (λ (x : Graph). IsGood x) (ok_same g g' kept.1) good
 
@@ -190,6 +191,6 @@ elaboration_is_sound asked ps s e =
     subst (λ (x : Specified). IsSoundSpec x) (ok_same (record { scalars = t.0.scalars; messages = gs.0; refinements = [] }) s gs.2) have
 
 -- the same of what the code answers
-pub sound_if : (asked : List (List ℕ)) (ps : List PackageTree) (r : Result Spec SpecFault) → IfOk r (λ s. elaborated asked ps ≡ Ok (spec_of s)) → IfOk r (λ s. IsSoundSpec (spec_of s))
+pub sound_if : (asked : List (List ℕ)) (ps : List PackageTree) (r : Result Spec ElabFault) → IfOk r (λ s. elaborated asked ps ≡ Ok (spec_of s)) → IfOk r (λ s. IsSoundSpec (spec_of s))
 sound_if asked ps (Ok s) h = elaboration_is_sound asked ps (spec_of s) h
 sound_if asked ps (Err e) h = tt

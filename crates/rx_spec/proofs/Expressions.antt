@@ -32,7 +32,8 @@ use Rattle.rx_judge.specs.Meaning.{◌>>=◌, refused, each_from}
 use Rattle.rx_judge.specs.Names.{Scope, Within}
 use Rattle.rx_judge.specs.Scalar.{root_place}
 use Rattle.rx_judge.specs.Sound.{FieldsBelow, FitScope, operators_of}
-use Rattle.rx_judge.specs.declared.fault.Refusal.{Refusal}
+use Rattle.rx_syntax.specs.declared.rule.Refusal.{Refusal}
+use Rattle.rx_syntax.specs.declared.rule.Rule.TheVariants as rule
 use Rattle.rx_judge.specs.declared.names.KnownField.{KnownField}
 use Rattle.rx_judge.proofs.Lows.{both_true}
 use Rattle.rx_judge.proofs.Meanings.{bind_ok, ok_same, if_ok, err_differs}
@@ -170,14 +171,14 @@ module _ (domains : List Domain) (g : Graph) where
 
     truth_good : (owner : List ℕ) (e : ExprTree) (x : Tree) → has_few e ≡ true → truth_judged s owner e ≡ Ok x → IsGood kind.Truth x
     truth_good owner e x few h =
-        let b = bind_ok (judged (Within s) owner e) (λ (y : Typed). if is_truth y.about.kind then Ok y.tree else refused 10 (root_place e) (root_name owner e)) x h in
-        let q = if_ok (is_truth b.0.about.kind) b.0.tree x (record { number = 10; place = root_place e; name = root_name owner e }) b.2 in
+        let b = bind_ok (judged (Within s) owner e) (λ (y : Typed). if is_truth y.about.kind then Ok y.tree else refused rule.WrongType (root_place e) (root_name owner e)) x h in
+        let q = if_ok (is_truth b.0.about.kind) b.0.tree x (record { rule = rule.WrongType; place = root_place e; word = Some (root_name owner e) }) b.2 in
         subst (λ (y : Tree). IsGood kind.Truth y) q.1 (typed_good owner e b.0 kind.Truth (truth_kind b.0.about.kind q.0) few b.1)
 
     number_good : (owner : List ℕ) (e : ExprTree) (x : Tree) → has_few e ≡ true → number_judged s owner e ≡ Ok x → IsGood kind.Number x
     number_good owner e x few h =
-        let b = bind_ok (judged (Within s) owner e) (λ (y : Typed). if is_number y.about.kind then Ok y.tree else refused 10 (root_place e) (root_name owner e)) x h in
-        let q = if_ok (is_number b.0.about.kind) b.0.tree x (record { number = 10; place = root_place e; name = root_name owner e }) b.2 in
+        let b = bind_ok (judged (Within s) owner e) (λ (y : Typed). if is_number y.about.kind then Ok y.tree else refused rule.WrongType (root_place e) (root_name owner e)) x h in
+        let q = if_ok (is_number b.0.about.kind) b.0.tree x (record { rule = rule.WrongType; place = root_place e; word = Some (root_name owner e) }) b.2 in
         subst (λ (y : Tree). IsGood kind.Number y) q.1 (typed_good owner e b.0 kind.Number (number_kind b.0.about.kind q.0) few b.1)
 
     -- ---- parts
@@ -192,7 +193,7 @@ module _ (domains : List Domain) (g : Graph) where
     unless_refused false r owner e x few h = number_good owner e x few h
 
     size_judged_good : (owner : List ℕ) (target : Option KnownField) (l : Place) (e : ExprTree) (x : Tree) → has_few e ≡ true → size_judged s owner target l e ≡ Ok x → IsGood kind.Number x
-    size_judged_good owner target l e x few h = unless_refused (is_scalar_field target) (record { number = 10; place = l; name = codes "Size" }) owner e x few h
+    size_judged_good owner target l e x few h = unless_refused (is_scalar_field target) (record { rule = rule.WrongType; place = l; word = Some (codes "Size") }) owner e x few h
 
     aspect_good : (ls : List Laying) (owner : List ℕ) (target : Option KnownField) (p q : Parts) (a : AspectTree) → AreGood p → aspect_has_few a ≡ true → with_aspect s ls owner target p a ≡ Ok q → AreGood q
     aspect_good ls owner target p q (aspect.First l e) h few k =

@@ -3,7 +3,7 @@
 --   IsFirstOf s ls target o x       the same, if there is one
 --   parts_first                     the First of what is written of a field or a link
 --   laid_below                      a First lays its target over a field of the message
-use Rattle.std.proofs.Common.{◌≡◌, ◌∙◌, ap, sym, refl, subst, ℕ, ◌<◌, Bool, true, false, not, List, [], ◌∷◌, Option, Some, None, Ok, Err, arith}
+use Rattle.std.proofs.Common.{◌≡◌, ◌∙◌, ap, sym, refl, subst, ℕ, ◌<◌, Bool, true, false, not, ◌||◌, List, [], ◌∷◌, Option, Some, None, Ok, Err, arith}
 use Rattle.std.specs.Prelude.{ℤ, pos, ◌<ℤ◌, int_le, codes, if◌then◌else◌}
 use Rattle.std.specs.Option.{option_or}
 use Rattle.std.proofs.lemmas.Int.{ints}
@@ -32,15 +32,16 @@ use Rattle.rx_judge.specs.Names.{Scope, Within, thing_of}
 use Rattle.rx_judge.specs.Scalar.{root_place}
 use Rattle.rx_judge.specs.Sound.{FitScope}
 use Rattle.rx_judge.specs.declared.about.About.{About}
-use Rattle.rx_judge.specs.declared.fault.Refusal.{Refusal}
+use Rattle.rx_syntax.specs.declared.rule.Refusal.{Refusal}
+use Rattle.rx_syntax.specs.declared.rule.Rule.TheVariants as rule
 use Rattle.rx_judge.specs.declared.names.KnownField.{KnownField}
 use Rattle.rx_judge.specs.declared.names.Thing.{Thing}
 use Rattle.rx_judge.specs.declared.names.Thing.TheVariants as thing
 use Rattle.rx_judge.proofs.Lows.{both_true}
 use Rattle.rx_judge.proofs.Meanings.{bind_ok, ok_same, if_ok, err_differs}
 use Rattle.rx_judge.proofs.Sound.{sound}
-use Rattle.rx_elab.specs.Firsts.{field_of_thing, is_of_numbers, is_step_by, is_step, is_form, name_of_last, is_behind, has_first_form, field_if_any, laid, laid_if_any, first_from, first_in}
-use Rattle.rx_elab.specs.Parts.{Parts, no_parts, root_name, number_judged, truth_judged, is_mixed_target, first_stands, first_judged, size_judged, with_aspect, with_condition, parts_judged}
+use Rattle.rx_elab.specs.Firsts.{field_of_thing, is_of_numbers, is_step_by, is_step, is_form, name_of_last, is_behind, has_first_form, field_if_any, laid, unlaid, laid_if_any, first_from, first_in}
+use Rattle.rx_elab.specs.Parts.{Parts, no_parts, root_name, number_judged, truth_judged, is_mixed_target, is_mixed_beside, first_stands, first_judged, size_judged, with_aspect, with_condition, parts_judged}
 use Rattle.rx_elab.specs.Through.{through}
 use Rattle.rx_elab.specs.declared.layings.Laying.{Laying}
 
@@ -82,10 +83,11 @@ joined_tree owner p l r y e =
 positive : (z : ℤ) → int_le (pos 1) z ≡ true → pos 0 <ℤ z
 positive z h = grind (arith, ints)
 
-formed : (b c : Bool) (r q : Refusal) (u : Unit {0}) → (if not b then Err r else (if c then Err q else Ok tt)) ≡ Ok u → (b ≡ true) × (c ≡ false)
-formed true false r q u h = (refl, refl)
-formed true true r q u h = absurd (err_differs q u h)
-formed false c r q u h = absurd (err_differs r u h)
+formed : (b c d : Bool) (r q : Refusal) (u : Unit {0}) → (if b || c then Err q else (if not d then Err r else Ok tt)) ≡ Ok u → (d ≡ true) × (b ≡ false)
+formed false false true r q u h = (refl, refl)
+formed false false false r q u h = absurd (err_differs r u h)
+formed false true d r q u h = absurd (err_differs q u h)
+formed true c d r q u h = absurd (err_differs q u h)
 
 module _ (kinds : ℕ → Option Kind) (limit : ℕ → ℕ) (n : ℕ) (s : Scope) (fits : FitScope kinds limit n s) where
   step_static : (owner : List ℕ) (k : ExprTree) (r : Typed) → judged (Within s) owner k ≡ Ok r → is_step s owner k ≡ true → (is_static r.tree ≡ true) × (pos 0 <ℤ static_value r.tree)
@@ -137,9 +139,9 @@ module _ (kinds : ℕ → Option Kind) (limit : ℕ → ℕ) (n : ℕ) (s : Scop
   first_meant : (ls : List Laying) (owner : List ℕ) (target : Option KnownField) (p : Place) (e : ExprTree) (x : Tree) → first_judged s ls owner target p e ≡ Ok x → IsFirstMeant ls target e x
   first_meant ls owner target p e x h =
       let a = bind_ok (first_stands s ls owner target p e) (λ u. number_judged s owner e) x h in
-      let st = formed (has_first_form s owner e) (is_mixed_target ls target (laid s e)) (record { number = 18; place = p; name = codes "First" }) (record { number = 17; place = p; name = codes "First" }) a.0 a.1 in
-      let b = bind_ok (judged (Within s) owner e) (λ (y : Typed). if is_number y.about.kind then Ok y.tree else refused 10 (root_place e) (root_name owner e)) x a.2 in
-      let q = if_ok (is_number b.0.about.kind) b.0.tree x (record { number = 10; place = root_place e; name = root_name owner e }) b.2 in
+      let st = formed (is_mixed_target ls target (laid s e)) (is_mixed_beside ls target (unlaid s e)) (has_first_form s owner e) (record { rule = rule.FirstForm; place = p; word = Some (codes "First") }) (record { rule = rule.OverlayMixed; place = p; word = Some (codes "First") }) a.0 a.1 in
+      let b = bind_ok (judged (Within s) owner e) (λ (y : Typed). if is_number y.about.kind then Ok y.tree else refused rule.WrongType (root_place e) (root_name owner e)) x a.2 in
+      let q = if_ok (is_number b.0.about.kind) b.0.tree x (record { rule = rule.WrongType; place = root_place e; word = Some (root_name owner e) }) b.2 in
       let f = first_is owner e b.0 b.1 st.0 in
       let lies : laid s e ≡ laid_over (Some x) = f.0 ∙ ap (λ (t : Tree). laid_over (Some t)) q.1 in
       record {

@@ -26,7 +26,8 @@ use Rattle.rx_judge.specs.Names.{known}
 use Rattle.rx_judge.specs.Scalar.{spelled}
 use Rattle.rx_judge.specs.Sound.{IsListed, FitScope}
 use Rattle.rx_judge.specs.Table.{Entry, found, added}
-use Rattle.rx_judge.specs.declared.fault.Refusal.{Refusal}
+use Rattle.rx_syntax.specs.declared.rule.Refusal.{Refusal}
+use Rattle.rx_syntax.specs.declared.rule.Rule.TheVariants as rule
 use Rattle.rx_judge.specs.declared.names.KnownField.{KnownField}
 use Rattle.rx_judge.proofs.Meanings.{bind_ok, ok_same, if_ok, err_differs}
 use Rattle.rx_elab.specs.Fields.{held_as, field_held}
@@ -68,7 +69,7 @@ module _ (domains : List Domain) where
       let here = λ (v : List ℕ). all_found (IsKnown domains) table v name.word k t in
       either_known (found table p name.word) (found table [] name.word) k (here p) (here []) (known_ok name (own_type table p name.word) k h)
   type_known table p withs (Some q) name k t h =
-      let r : Refusal = record { number = 8; place = q.place; name = q.word } in
+      let r : Refusal = record { rule = rule.UnknownName; place = q.place; word = Some q.word } in
       let seen = taken (is_visible_in p withs q.word) (known name (found table q.word name.word)) k r h in
       all_found (IsKnown domains) table q.word name.word k t (known_ok name (found table q.word name.word) k seen.1)
 
@@ -171,7 +172,7 @@ fits_order false size e k = absurd (cc)
 
 is_field_type : (domains : List Domain) (g : Graph) (low : Bool) (links : List Arrow) (name : Named) (i : ℕ) (x : Held) → IsHeld domains x → held_sized low links name i (Some x) ≡ Ok tt → g.low_order ≡ low → IsFieldType domains g (type_held (Some x))
 is_field_type domains g low links name i (holds.Scalar s) d e k =
-    let r : Refusal = record { number = 19; place = name.place; name = name.word } in
+    let r : Refusal = record { rule = rule.OrderSize; place = name.place; word = Some name.word } in
     let order = if_ok (is_in_order low s.size) tt tt r e in
     (d.domain, d.is, d.proper, subst (λ n. FitsOrder g.low_order n) (sym d.size) (subst (λ b. FitsOrder b s.size) (sym k) (fits_order low s.size order.0)))
 is_field_type domains g low links name i holds.Opaque d e k = tt

@@ -7,11 +7,11 @@ use Rattle.std.proofs.lemmas.Option.{same_Some}
 use Rattle.rx_syntax.specs.declared.tree.Named.{Named}
 use Rattle.rx_types.specs.Domain.{Domain, domain_of, boolean}
 use Rattle.rx_graph.specs.declared.spec.Scalar as code
-use Rattle.rx_graph.specs.Graph.{Graph, named_domain_of}
-use Rattle.rx_forms.specs.Code.{domains_in}
+use Rattle.rx_graph.specs.Graph.{Graph, domains_in, named_domain_of}
 use Rattle.rx_forms.specs.PathLimit.{keeps_limit}
 use Rattle.rx_judge.specs.Meaning.{Meaning, refused_at}
-use Rattle.rx_judge.specs.declared.fault.Refusal.{Refusal}
+use Rattle.rx_syntax.specs.declared.rule.Refusal.{Refusal}
+use Rattle.rx_syntax.specs.declared.rule.Rule.TheVariants as rule
 use Rattle.rx_elab.specs.Types as known
 use Rattle.rx_elab.specs.Types.{types_of}
 use Rattle.rx_elab.specs.declared.types.Types.{Types}
@@ -30,12 +30,12 @@ boolean_first t xs d e b h = same_Some d boolean (sym h ∙ ap (λ (ds : List Do
 -- ---- the limit, where it is known whether the message keeps it
 
 abbrev ended : Named → Graph → Bool → Meaning Graph
-ended name g b = if b then Ok g else refused_at 21 name
+ended name g b = if b then Ok g else refused_at rule.GraphLimit name
 
 pub limit_keeps : (t : known.Types) (name : Named) (g : Graph) (kept : Bool) → kept ≡ keeps_limit (domains_known t) g → kept ≡ true → within_limit t name g ≡ Ok g
 unfolding within_limit
 limit_keeps t name g kept h k = ap (ended name g) (sym h ∙ k)
 
-pub limit_passes : (t : known.Types) (name : Named) (g : Graph) (kept : Bool) (r : Refusal) → kept ≡ keeps_limit (domains_known t) g → kept ≡ false → r ≡ record { number = 21; place = name.place; name = name.word } → within_limit t name g ≡ Err r
+pub limit_passes : (t : known.Types) (name : Named) (g : Graph) (kept : Bool) (r : Refusal) → kept ≡ keeps_limit (domains_known t) g → kept ≡ false → r ≡ record { rule = rule.GraphLimit; place = name.place; word = Some name.word } → within_limit t name g ≡ Err r
 unfolding within_limit
 limit_passes t name g kept r h k e = ap (ended name g) (sym h ∙ k) ∙ ap (λ (x : Refusal). Err x) (sym e)

@@ -22,7 +22,8 @@ use Rattle.rx_graph.specs.Graph.{Arrow, Graph}
 use Rattle.rx_judge.specs.Meaning.{Meaning}
 use Rattle.rx_judge.specs.Names.{Scope}
 use Rattle.rx_judge.specs.Table.{Entry, entry, is_entry, lowered, found, has, added}
-use Rattle.rx_judge.specs.declared.fault.Refusal.{Refusal}
+use Rattle.rx_syntax.specs.declared.rule.Refusal.{Refusal}
+use Rattle.rx_syntax.specs.declared.rule.Rule.TheVariants as rule
 use Rattle.rx_judge.specs.declared.names.KnownField.{KnownField}
 use Rattle.rx_judge.specs.declared.names.FieldKind.{FieldKind}
 use Rattle.rx_judge.specs.declared.names.FieldKind.TheVariants as field_kind
@@ -213,7 +214,7 @@ aspect_without s ls owner target p q (aspect.First l e) is h k =
     ap (λ (y : Parts). y.size) (sym (ok_same (record p { first = Some b.0 }) q b.2)) ∙ h
 aspect_without s ls owner target p q (aspect.Size l e) is h k =
     let b = bind_ok (size_judged s owner target l e) (λ (x : Tree). Ok (record p { size = Some x })) q k in
-    absurd (sized_not (is_scalar_field target) (record { number = 10; place = l; name = codes "Size" }) (number_judged s owner e) b.0 is b.1)
+    absurd (sized_not (is_scalar_field target) (record { rule = rule.WrongType; place = l; word = Some (codes "Size") }) (number_judged s owner e) b.0 is b.1)
 
 aspects_without : (s : Scope) (ls : List Laying) (owner : List ℕ) (target : Option KnownField) (p q : Parts) (xs : List AspectTree) → is_scalar_field target ≡ true → p.size ≡ None → through (with_aspect s ls owner target) p xs ≡ Ok q → q.size ≡ None
 aspects_without s ls owner target p q [] is h k = ap (λ (y : Parts). y.size) (sym (ok_same p q k)) ∙ h

@@ -15,7 +15,8 @@ use Rattle.rx_types.specs.Domain.{Domain, Integer, Enumeration, greatest, greate
 use Rattle.rx_types.specs.Names.{IsSameName, is_name_byte}
 use Rattle.rx_judge.specs.Meaning.{Meaning, ◌>>=◌, each_from, all_stand_from}
 use Rattle.rx_judge.specs.Scalar.{spelled, static_value, is_size, is_range, numbers_of, size_of_aspects, first_some, always_valid, given, are_literals, literal_at, number_at, enumeration, unsigned, range, definition, IsMeasured}
-use Rattle.rx_judge.specs.declared.fault.Refusal.{Refusal}
+use Rattle.rx_syntax.specs.declared.rule.Refusal.{Refusal}
+use Rattle.rx_syntax.specs.declared.rule.Rule.TheVariants as rule
 use Rattle.rx_judge.proofs.Measured.{measured}
 use Rattle.rx_judge.proofs.Meanings.{bind_ok, ok_same, if_ok}
 use Rattle.rx_elab.specs.Stand.{Known, literal_fresh, enum_aspect_stands, definition_stands}
@@ -32,7 +33,7 @@ abbrev tree_names : List LiteralTree → List (List ℕ)
 tree_names ls = map (λ l. l.name.word) ls
 
 pub spelled_same : (n : Named) (w : List ℕ) → spelled n ≡ Ok w → n.word ≡ w
-spelled_same n w h = (if_ok (list_all is_name_byte n.word) n.word w (record { number = 8; place = n.place; name = n.word }) h).1
+spelled_same n w h = (if_ok (list_all is_name_byte n.word) n.word w (record { rule = rule.UnknownName; place = n.place; word = Some n.word }) h).1
 
 names_along : (zs : List ℤ) (i : ℕ) (ls : List LiteralTree) (lits : List Literal) → each_from (literal_at zs) i ls ≡ Ok lits → tree_names ls ≡ literal_names lits
 names_along zs i [] lits h = ap literal_names (ok_same [] lits h)
@@ -71,7 +72,7 @@ record IsOf (ls : List LiteralTree) (d : Domain) : Type 0 where
 
 is_of : (name : Named) (ls : List LiteralTree) (xs : List EnumAspect) (d : Domain) → enumeration name ls xs ≡ Ok d → IsOf ls d
 is_of name ls xs d h =
-    let r : Refusal = record { number = 20; place = name.place; name = name.word } in
+    let r : Refusal = record { rule = rule.BadRange; place = name.place; word = Some name.word } in
     let made = λ (zs : List ℤ) (n : ℤ). (each_from (literal_at zs) 0 ls >>= (λ literals. Ok (Enumeration literals (nat_abs n) (always_valid xs)))) in
     let last = λ (zs : List ℤ) (n : ℤ). if are_literals n zs then made zs n else Err r in
     let p = bind_ok (numbers_of name.word ls) (λ zs. size_of_aspects name.word xs >>= (λ sizes. given name (first_some sizes) >>= (λ n. last zs n))) d h in
@@ -92,14 +93,14 @@ proper_integer a b n d e m = subst (λ (x : Domain). IsProper x) e (subst (λ (x
 
 unsigned_integer : (name : Named) (e : ExprTree) (d : Domain) → unsigned name e ≡ Ok d → (a b n : ℕ) × (Integer a b n ≡ d)
 unsigned_integer name e d h =
-    let r : Refusal = record { number = 20; place = name.place; name = name.word } in
+    let r : Refusal = record { rule = rule.BadRange; place = name.place; word = Some name.word } in
     let v = bind_ok (static_value name.word e) (λ n. if is_size n then Ok (Integer 0 (2 ^ nat_abs n - 1) (nat_abs n)) else Err r) d h in
     let q = if_ok (is_size v.0) (Integer 0 (2 ^ nat_abs v.0 - 1) (nat_abs v.0)) d r v.2 in
     (0, 2 ^ nat_abs v.0 - 1, nat_abs v.0, q.1)
 
 range_integer : (name : Named) (x y z : ExprTree) (d : Domain) → range name x y z ≡ Ok d → (a b n : ℕ) × (Integer a b n ≡ d)
 range_integer name x y z d h =
-    let r : Refusal = record { number = 20; place = name.place; name = name.word } in
+    let r : Refusal = record { rule = rule.BadRange; place = name.place; word = Some name.word } in
     let f = λ (a b n : ℤ). if is_range a b n then Ok (Integer (nat_abs a) (nat_abs b) (nat_abs n)) else Err r in
     let p = bind_ok (static_value name.word x) (λ a. static_value name.word y >>= (λ b. static_value name.word z >>= (λ n. f a b n))) d h in
     let q = bind_ok (static_value name.word y) (λ b. static_value name.word z >>= (λ n. f p.0 b n)) d p.2 in

@@ -12,6 +12,7 @@ use Rattle.rx_syntax.specs.declared.tree.ThenTree.{ThenTree}
 use Rattle.rx_syntax.specs.declared.tree.FieldTree.{FieldTree}
 use Rattle.rx_syntax.specs.declared.tree.MessageTree.{MessageTree}
 use Rattle.rx_syntax.specs.declared.tree.HeaderTree.{HeaderTree}
+use Rattle.rx_syntax.specs.declared.rule.Rule.TheVariants as rule
 use Rattle.rx_types.specs.Domain.{Domain, EachPair}
 use Rattle.rx_types.specs.Names.{IsSameName, is_name_byte}
 use Rattle.rx_graph.specs.declared.message.Field.{Field}
@@ -71,7 +72,7 @@ apart_in (f ∷ fs) (suc i) (suc j) a b p h k same = ap suc (apart_in fs i j a b
 field_name : (held : List Held) (ls : List Laying) (i : ℕ) (f : FieldTree) (x : Field) → field_meant held ls i f ≡ Ok x → f.name.word ≡ x.name
 field_name held ls i f x e =
     let b = bind_ok (spelled f.name) (λ (w : List ℕ). Ok (record { name = w; kind = type_held (slice_get held i); overlay = overlay_in ls i })) x e in
-    (if_ok (list_all is_name_byte f.name.word) f.name.word b.0 (record { number = 8; place = f.name.place; name = f.name.word }) b.1).1 ∙ ap (λ (y : Field). y.name) (ok_same (record { name = b.0; kind = type_held (slice_get held i); overlay = overlay_in ls i }) x b.2)
+    (if_ok (list_all is_name_byte f.name.word) f.name.word b.0 (record { rule = rule.UnknownName; place = f.name.place; word = Some f.name.word }) b.1).1 ∙ ap (λ (y : Field). y.name) (ok_same (record { name = b.0; kind = type_held (slice_get held i); overlay = overlay_in ls i }) x b.2)
 
 -- ---- targets
 

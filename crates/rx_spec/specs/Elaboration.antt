@@ -2,15 +2,20 @@
 --   Told                       a refusal, and the package in whose text it stands
 --   elaborated asked ps        the specification of packages ps, which were fetched under the names asked, or the refusal that comes first
 use Rattle.std.specs.Prelude.{◌≡◌, ℕ, ◌+◌, List, [], ◌∷◌, Result, Ok, Err}
+use Rattle.rx_syntax.specs.declared.rule.Refusal.{Refusal}
 use Rattle.rx_syntax.specs.declared.tree.PackageTree.{PackageTree}
 use Rattle.rx_graph.specs.Graph.{Graph, Specified}
 use Rattle.rx_judge.specs.Meaning.{Meaning, ◌>>=◌, all_stand_from}
 use Rattle.rx_elab.specs.Stand.{package_stands}
 use Rattle.rx_elab.specs.Types.{Types, package_types, built_in_types}
 use Rattle.rx_spec.specs.Messages.{package_messages}
-use Rattle.rx_spec.specs.declared.fault.Told.{Told}
-use Rattle.rx_spec.specs.declared.fault.SpecFault.{SpecFault}
-use Rattle.rx_spec.specs.declared.fault.SpecFault.TheVariants.{Refused, NoMemory}
+use Rattle.rx_spec.specs.declared.fault.ElabFault.{ElabFault}
+use Rattle.rx_spec.specs.declared.fault.ElabFault.TheVariants.{Refused, NoMemory}
+
+-- a refusal, and the package in whose text it stands, by its place in the closure
+pub record Told : Type 0 where
+  pub «package» : ℕ
+  pub refusal : Refusal
 
 -- a meaning of package i
 abbrev pub in_package : {A : Type 0} → ℕ → Meaning A → Result A Told
@@ -40,6 +45,6 @@ elaborated asked ps = do
   Ok (record { scalars = t.scalars; messages = gs; refinements = [] })
 
 -- the fault tells the refusal, unless memory ran out
-abbrev pub TellsOf : {A : Type 0} → SpecFault → Result A Told → Type 0
-TellsOf (Refused r) m = m ≡ Err r
+abbrev pub TellsOf : {A : Type 0} → ElabFault → Result A Told → Type 0
+TellsOf (Refused i r) m = m ≡ Err (record { «package» = i; refusal = r })
 TellsOf NoMemory m = Unit {0}

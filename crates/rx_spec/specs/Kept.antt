@@ -20,13 +20,12 @@ use Rattle.rx_links.specs.declared.links.Way.{Way}
 use Rattle.rx_elab.specs.Parts.{Parts, no_parts, parts_of}
 use Rattle.rx_elab.specs.Types.{Types, built_in_types}
 use Rattle.rx_elab.specs.declared.parts.Parts as code
-use Rattle.rx_spec.specs.Elaboration.{package_types_in, package_messages_in, through_from}
+use Rattle.rx_spec.specs.Elaboration.{Told, package_types_in, package_messages_in, through_from}
 use Rattle.rx_spec.specs.Messages.{Body}
 use Rattle.rx_spec.specs.Shape.{paths_stand, few_stand}
 use Rattle.rx_spec.specs.declared.body.Body as code_body
-use Rattle.rx_spec.specs.declared.fault.Told.{Told}
-use Rattle.rx_spec.specs.declared.fault.SpecFault.{SpecFault}
-use Rattle.rx_spec.specs.declared.fault.SpecFault.TheVariants.{Refused, NoMemory}
+use Rattle.rx_spec.specs.declared.fault.ElabFault.{ElabFault}
+use Rattle.rx_spec.specs.declared.fault.ElabFault.TheVariants.{Refused, NoMemory}
 
 -- what is written, if anything
 abbrev pub parts_kept : Option code.Parts → Parts
@@ -66,6 +65,6 @@ typed ps = do
   specified ps t
 
 -- the fault of what stands in package i
-abbrev pub fault_in : ℕ → Fault → SpecFault
-fault_in i (fault.Refused r) = Refused (record { «package» = i; refusal = r })
+abbrev pub fault_in : ℕ → Fault → ElabFault
+fault_in i (fault.Refused r) = Refused i r
 fault_in i fault.NoMemory = NoMemory

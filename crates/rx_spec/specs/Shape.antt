@@ -1,6 +1,6 @@
 -- The shape of a message: what its fields hold, and which links it has.
---   paths_stand name ways      at most 4,096 whole paths, or 21 at the message's name
---   few_stand name m           no expression has more than 256 operators, or 6 at the message's name
+--   paths_stand name ways      at most 4,096 whole paths, or GraphLimit at the message's name
+--   few_stand name m           no expression has more than 256 operators, or TooDeep at the message's name
 --   ways_of name m             the links of a message, which lead to its fields, do not lead back, and are few
 --   shape_of ts p withs name m    the shape of message m of package p
 use Rattle.std.specs.Prelude.{ℕ, Bool, true, ◌&&◌, nat_le, List, length, map, Option, Some, None, Ok, if◌then◌else◌}
@@ -13,6 +13,7 @@ use Rattle.rx_syntax.specs.declared.tree.AspectTree.TheVariants as aspect
 use Rattle.rx_syntax.specs.declared.tree.ThenTree.{ThenTree}
 use Rattle.rx_syntax.specs.declared.tree.FieldTree.{FieldTree}
 use Rattle.rx_syntax.specs.declared.tree.MessageTree.{MessageTree}
+use Rattle.rx_syntax.specs.declared.rule.Rule.TheVariants as rule
 use Rattle.rx_types.specs.Tree.{Truth}
 use Rattle.rx_graph.specs.declared.message.Node.TheVariants as node
 use Rattle.rx_graph.specs.Graph.{Arrow}
@@ -48,7 +49,7 @@ abbrev pub whole_paths : Place → List Way → List (List ℕ)
 whole_paths p ways = onward (map (bare_arrow p) ways) (length ways) node.Null node.Start
 
 abbrev pub paths_stand : Named → List Way → Meaning (Unit {0})
-paths_stand name ways = if nat_le (length (whole_paths name.place ways)) 4096 then Ok tt else refused_at 21 name
+paths_stand name ways = if nat_le (length (whole_paths name.place ways)) 4096 then Ok tt else refused_at rule.GraphLimit name
 
 -- ---- operators; no text has an expression with more of them
 
@@ -73,7 +74,7 @@ abbrev pub message_has_few : MessageTree → Bool
 message_has_few m = list_all then_has_few m.start.items && list_all field_has_few m.fields.items
 
 abbrev pub few_stand : Named → MessageTree → Meaning (Unit {0})
-few_stand name m = if message_has_few m then Ok tt else refused_at 6 name
+few_stand name m = if message_has_few m then Ok tt else refused_at rule.TooDeep name
 
 -- ---- the shape
 

@@ -1,11 +1,12 @@
 -- Sizes of fields, and the sizes of scalars in low order.
 --   is_sized links i            field i has a Size at each link to it, or ends the message
 --   is_in_order low size        in low order a scalar has fewer than eight bits, or whole bytes
---   fields_sized low hs links fs    14 and 19 at the names of the fields
+--   fields_sized low hs links fs    MissingSize and OrderSize at the names of the fields
 use Rattle.std.specs.Prelude.{ℕ, ◌%◌, ◌==◌, Bool, true, false, not, ◌&&◌, ◌||◌, nat_lt, List, [], ◌∷◌, Option, Some, None, Ok, slice_get, filter, if◌then◌else◌}
 use Rattle.std.specs.List.{list_any}
 use Rattle.rx_syntax.specs.declared.tree.Named.{Named}
 use Rattle.rx_syntax.specs.declared.tree.FieldTree.{FieldTree}
+use Rattle.rx_syntax.specs.declared.rule.Rule.TheVariants as rule
 use Rattle.rx_types.specs.Tree.{Tree}
 use Rattle.rx_graph.specs.declared.message.Node.TheVariants.{At, Null}
 use Rattle.rx_graph.specs.Graph.{Arrow}
@@ -39,8 +40,8 @@ is_in_order low size = not low || (nat_lt size 8 || size % 8 == 0)
 
 abbrev pub held_sized : Bool → List Arrow → Named → ℕ → Option Held → Meaning (Unit {0})
 held_sized low links name i None = Ok tt
-held_sized low links name i (Some (holds.Scalar s)) = if is_in_order low s.size then Ok tt else refused_at 19 name
-held_sized low links name i (Some holds.Opaque) = if is_sized links i then Ok tt else refused_at 14 name
+held_sized low links name i (Some (holds.Scalar s)) = if is_in_order low s.size then Ok tt else refused_at rule.OrderSize name
+held_sized low links name i (Some holds.Opaque) = if is_sized links i then Ok tt else refused_at rule.MissingSize name
 
 abbrev pub field_sized : Bool → List Held → List Arrow → ℕ → FieldTree → Meaning (Unit {0})
 field_sized low hs links i f = held_sized low links f.name i (slice_get hs i)

@@ -12,7 +12,7 @@ use crate::arrows::node_of;
 use rx_graph::{Link, Message, PathFault, paths};
 use rx_judge::{Fault, NoMemory, refused_at};
 use rx_links::Way;
-use rx_syntax::{Named, Place};
+use rx_syntax::{Named, Place, Rule};
 use rx_types::{Expr, Name};
 use std::alloc::Global;
 
@@ -82,7 +82,7 @@ fn ways_have_few_paths(alloc: Global, place: Place, ways: &[Way]) -> Result<bool
     has_few_paths(alloc, &message)
 }
 
-/// That a message has at most 4,096 whole paths; else 21 at its name.
+/// That a message has at most 4,096 whole paths; else GraphLimit at its name.
 pub(crate) fn paths_stand(alloc: Global, name: &Named, ways: &[Way]) -> Result<(), Fault>
     requires within { AreWithin (2 ^ 16) ways.now }
     requires few { length ways.now ≤ 2 ^ 16 }
@@ -94,5 +94,5 @@ pub(crate) fn paths_stand(alloc: Global, name: &Named, ways: &[Way]) -> Result<(
     if few {
         return Ok(());
     }
-    Err(Fault::Refused(refused_at(alloc, 21, name)?))
+    Err(Fault::Refused(refused_at(alloc, Rule::GraphLimit, name)?))
 }

@@ -10,7 +10,7 @@ ghost use Rattle.rx_spec.specs.Laws.{IsSoundSpec};
 ghost use Rattle.rx_spec.specs.Limit.{HasBoolean};
 ghost use Rattle.rx_spec.specs.Ready.{PackageMakes, AreReady, AreReadyOnceTyped};
 
-use crate::fault::{SpecFault, fault_in};
+use crate::fault::{ElabFault, fault_in};
 use crate::packages::package_messages;
 use rx_elab::{Types, built_in_types, package_stands, package_types};
 use rx_graph::{Message, Spec};
@@ -28,7 +28,7 @@ fn package_stands_in(
     asked: &[Name],
     index: usize,
     package: &PackageTree,
-) -> Result<(), SpecFault>
+) -> Result<(), ElabFault>
     ensures meaning { IfOk result (λ x. package_stands_in asked.now index «package».now ≡ Ok x) }
     ensures refusal { IfErr result (λ e. TellsOf e (package_stands_in asked.now index «package».now)) }
 {
@@ -38,7 +38,7 @@ fn package_stands_in(
     }
 }
 
-fn names_stand(alloc: Global, asked: &[Name], packages: &[PackageTree]) -> Result<(), SpecFault>
+fn names_stand(alloc: Global, asked: &[Name], packages: &[PackageTree]) -> Result<(), ElabFault>
     ensures meaning { IfOk result (λ x. all_stand_from (package_stands_in asked.now) 0 packages.now ≡ Ok x) }
     ensures refusal { IfErr result (λ e. TellsOf e (all_stand_from (package_stands_in asked.now) 0 packages.now)) }
 {
@@ -55,12 +55,12 @@ fn add_types(
     types: &mut Types,
     index: usize,
     package: &PackageTree,
-) -> Result<(), SpecFault>
+) -> Result<(), ElabFault>
     ensures meaning { IfOk result (λ x. package_types_in index (types_of types.old) «package».now ≡ Ok (types_of types.new)) }
     ensures refusal { IfErr result (λ e. TellsOf e (package_types_in index (types_of types.old) «package».now)) }
 {
     if types.scalars.len() + package.decls.len() > MOST_SCALARS {
-        return Err(SpecFault::NoMemory);
+        return Err(ElabFault::NoMemory);
     }
     match package_types(alloc, types, package) {
         Ok(()) => Ok(()),
@@ -68,7 +68,7 @@ fn add_types(
     }
 }
 
-fn types_of(alloc: Global, packages: &[PackageTree]) -> Result<Types, SpecFault>
+fn types_of(alloc: Global, packages: &[PackageTree]) -> Result<Types, ElabFault>
     ensures meaning { IfOk result (λ t. through_from package_types_in 0 built_in_types packages.now ≡ Ok (types_of t)) }
     ensures refusal { IfErr result (λ e. TellsOf e (through_from package_types_in 0 built_in_types packages.now)) }
 {
@@ -87,7 +87,7 @@ fn add_messages(
     messages: &mut Vec<Message>,
     index: usize,
     package: &PackageTree,
-) -> Result<(), SpecFault>
+) -> Result<(), ElabFault>
     requires boolean { HasBoolean (types_of types.now) }
     requires elaborated { PackageMakes (types_of types.now) «package».now }
     ensures meaning { IfOk result (λ x. package_messages_in (types_of types.now) index (map graph_of messages.old.items) «package».now ≡ Ok (map graph_of messages.new.items)) }
@@ -103,7 +103,7 @@ fn messages_of(
     alloc: Global,
     types: &Types,
     packages: &[PackageTree],
-) -> Result<Vec<Message>, SpecFault>
+) -> Result<Vec<Message>, ElabFault>
     requires ready { AreReady (types_of types.now) packages.now }
     ensures meaning { IfOk result (λ ms. through_from (package_messages_in (types_of types.now)) 0 [] packages.now ≡ Ok (map graph_of ms.items)) }
     ensures refusal { IfErr result (λ e. TellsOf e (through_from (package_messages_in (types_of types.now)) 0 [] packages.now)) }
@@ -117,7 +117,7 @@ fn messages_of(
 
 // ---- the whole
 
-fn specified(alloc: Global, packages: &[PackageTree], types: Types) -> Result<Spec, SpecFault>
+fn specified(alloc: Global, packages: &[PackageTree], types: Types) -> Result<Spec, ElabFault>
     requires ready { AreReady (types_of types) packages.now }
     ensures meaning { IfOk result (λ s. specified packages.now (types_of types) ≡ Ok (spec_of s)) }
     ensures refusal { IfErr result (λ e. TellsOf e (specified packages.now (types_of types))) }
@@ -130,7 +130,7 @@ fn specified(alloc: Global, packages: &[PackageTree], types: Types) -> Result<Sp
     })
 }
 
-fn typed(alloc: Global, packages: &[PackageTree]) -> Result<Spec, SpecFault>
+fn typed(alloc: Global, packages: &[PackageTree]) -> Result<Spec, ElabFault>
     requires ready { AreReadyOnceTyped packages.now }
     ensures meaning { IfOk result (λ s. typed packages.now ≡ Ok (spec_of s)) }
     ensures refusal { IfErr result (λ e. TellsOf e (typed packages.now)) }
@@ -140,9 +140,9 @@ fn typed(alloc: Global, packages: &[PackageTree]) -> Result<Spec, SpecFault>
 }
 
 /// The scalar types and messages of packages, which were fetched under the names `asked`, or the refusal that comes
-/// first: names of all packages (8, 9), then their scalar types (10 to 14, 20), then their messages (8, 10, 12 to 14, 16
-/// to 19, 21). The last that is asked of a message is whether its paths keep the path limit (21).
-pub fn elaborate(alloc: Global, asked: &[Name], packages: &[PackageTree]) -> Result<Spec, SpecFault>
+/// first: names of all packages, then their scalar types, then their messages. The last that is asked of a message is
+/// whether its paths keep the path limit (GraphLimit).
+pub fn elaborate(alloc: Global, asked: &[Name], packages: &[PackageTree]) -> Result<Spec, ElabFault>
     ensures meaning { IfOk result (λ s. elaborated asked.now packages.now ≡ Ok (spec_of s)) }
     ensures refusal { IfErr result (λ e. TellsOf e (elaborated asked.now packages.now)) }
     ensures sound { IfOk result (λ s. IsSoundSpec (spec_of s)) }

@@ -3,40 +3,34 @@
 ghost use Rattle.std.specs.Prelude.{◌≡◌};
 ghost use Rattle.rx_spec.specs.Kept.{fault_in};
 
-use rx_judge::{Fault, NoMemory, Refusal};
-
-/// A refusal, and the package in whose text it stands, by its place in the closure.
-#[derive(Debug, Drop)]
-pub struct Told {
-    pub package: usize,
-    pub refusal: Refusal,
-}
+use rx_judge::{Fault, NoMemory};
+use rx_syntax::Refusal;
 
 /// Why there is no specification.
 #[derive(Debug, Drop)]
-pub enum SpecFault {
-    /// A rule is broken.
-    Refused(Told),
+pub enum ElabFault {
+    /// A rule is broken in the text of a package, which is given by its place in the closure.
+    Refused { package: usize, refusal: Refusal },
     NoMemory,
 }
 
-impl From<NoMemory> for SpecFault {
+impl From<NoMemory> for ElabFault {
     ghost use Rattle.std.specs.Prelude.{◌≡◌};
-    ghost use Rattle.rx_spec.specs.declared.fault.SpecFault.TheVariants.{NoMemory};
+    ghost use Rattle.rx_spec.specs.declared.fault.ElabFault.TheVariants.{NoMemory};
 
     ghost from_gives = { λ _ e. e ≡ NoMemory };
 
     fn from(_: NoMemory) -> Self {
-        SpecFault::NoMemory
+        ElabFault::NoMemory
     }
 }
 
 /// The fault of what stands in a package.
-pub(crate) fn fault_in(package: usize, fault: Fault) -> SpecFault
+pub(crate) fn fault_in(package: usize, fault: Fault) -> ElabFault
     ensures { result ≡ fault_in «package» fault }
 {
     match fault {
-        Fault::Refused(refusal) => SpecFault::Refused(Told { package, refusal }),
-        Fault::NoMemory => SpecFault::NoMemory,
+        Fault::Refused(refusal) => ElabFault::Refused { package, refusal },
+        Fault::NoMemory => ElabFault::NoMemory,
     }
 }

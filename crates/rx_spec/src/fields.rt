@@ -94,7 +94,7 @@ fn field_meant(
     })
 }
 
-/// The fields with their types and overlays; 8 at a name that is none.
+/// The fields with their types and overlays; UnknownName at a name that is none.
 pub(crate) fn fields_meant(
     alloc: Global,
     held: &[Held],

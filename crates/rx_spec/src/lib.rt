@@ -16,4 +16,4 @@ mod sizes;
 mod ways;
 
 pub use elaboration::elaborate;
-pub use fault::{SpecFault, Told};
+pub use fault::ElabFault;

@@ -9,23 +9,25 @@ ghost use Rattle.rx_elab.specs.Types.{types_of};
 ghost use Rattle.rx_spec.specs.Limit.{domains_known, HasBoolean, within_limit};
 
 use rx_elab::Types;
-use rx_graph::Message;
+use rx_graph::{Elaborated, Message};
 use rx_judge::{Fault, NoMemory, refused_at};
-use rx_syntax::Named;
+use rx_syntax::{Named, Rule};
 use std::alloc::Global;
 
+// Whether the message keeps the path limit.
 fn limit_is_kept(alloc: Global, types: &Types, message: &Message) -> Result<bool, NoMemory>
     requires boolean { HasBoolean (types_of types.now) }
     requires elaborated { IsElaborated (domains_known (types_of types.now)) (graph_of message.now) }
     ensures { IfOk result (λ kept. kept ≡ keeps_limit (domains_known (types_of types.now)) (graph_of message.now)) }
 {
-    match rx_forms::keeps_limit(alloc, message, &types.scalars) {
+    let message = Elaborated::with(&types.scalars, message);
+    match rx_forms::keeps_limit(alloc, &message) {
         Ok(kept) => Ok(kept),
         Err(rx_forms::NoMemory) => Err(NoMemory),
     }
 }
 
-/// The message, if its paths keep the path limit; else 21 at its name.
+/// The message, if its paths keep the path limit; else GraphLimit at its name.
 pub(crate) fn within_limit(
     alloc: Global,
     types: &Types,
@@ -41,5 +43,5 @@ pub(crate) fn within_limit(
     if kept {
         return Ok(message);
     }
-    Err(Fault::Refused(refused_at(alloc, 21, name)?))
+    Err(Fault::Refused(refused_at(alloc, Rule::GraphLimit, name)?))
 }

@@ -180,8 +180,9 @@ fn message_made(
     graph_named(alloc, header, name, body, message.low_order)
 }
 
-/// What a message means: the refusals of its shape, then 8 at a field that has no name, then those of its expressions
-/// and Firsts, then 14 and 19 at its fields, then 21 at its name if its paths pass the path limit.
+/// What a message means: the refusals of its shape, then UnknownName at a field that has no name, then those of its
+/// expressions and Firsts, then MissingSize and OrderSize at its fields, then GraphLimit at its name if its paths pass
+/// the path limit.
 pub(crate) fn message_of(
     alloc: Global,
     types: &Types,

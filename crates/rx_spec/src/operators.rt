@@ -7,7 +7,7 @@ ghost use Rattle.rx_judge.specs.Sound.{operators_of};
 ghost use Rattle.rx_spec.specs.Shape.{has_few, has_few_if_any, aspect_has_few, then_has_few, field_has_few, message_has_few, few_stand};
 
 use rx_judge::{Fault, refused_at};
-use rx_syntax::{AspectTree, ExprTree, FieldTree, MessageTree, Named, ThenTree};
+use rx_syntax::{AspectTree, ExprTree, FieldTree, MessageTree, Named, Rule, ThenTree};
 use std::alloc::Global;
 
 const MOST_OPERATORS: u32 = 256;
@@ -102,7 +102,7 @@ fn message_has_few(message: &MessageTree) -> bool
     thens_have_few(&message.start) && fields_have_few(&message.fields)
 }
 
-/// That no expression of a message has more than 256 operators; else 6 at the message's name.
+/// That no expression of a message has more than 256 operators; else TooDeep at the message's name.
 pub(crate) fn few_stand(alloc: Global, name: &Named, message: &MessageTree) -> Result<(), Fault>
     ensures meaning { IfOk result (λ x. few_stand name.now message.now ≡ Ok x) }
     ensures refusal { IfErr result (λ e. Tells e (few_stand name.now message.now)) }
@@ -110,5 +110,5 @@ pub(crate) fn few_stand(alloc: Global, name: &Named, message: &MessageTree) -> R
     if message_has_few(message) {
         return Ok(());
     }
-    Err(Fault::Refused(refused_at(alloc, 6, name)?))
+    Err(Fault::Refused(refused_at(alloc, Rule::TooDeep, name)?))
 }

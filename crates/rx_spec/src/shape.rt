@@ -19,7 +19,7 @@ pub struct Shape {
     pub ways: Vec<Way>,
 }
 
-/// The shape of a message: 8 and 10 at a type of a field, then what refuses its links.
+/// The shape of a message: UnknownName and WrongType at a type of a field, then what refuses its links.
 pub(crate) fn shape_of(
     alloc: Global,
     types: &Table<KnownType>,

@@ -11,7 +11,7 @@ use crate::fields::held_at;
 use rx_elab::Held;
 use rx_graph::{Link, Node};
 use rx_judge::{Fault, refused_at};
-use rx_syntax::{FieldTree, Named};
+use rx_syntax::{FieldTree, Named, Rule};
 use std::alloc::Global;
 
 // Whether the node is the field at a place.
@@ -97,19 +97,19 @@ fn held_sized(
             if is_in_order(low, scalar.size) {
                 return Ok(());
             }
-            Err(Fault::Refused(refused_at(alloc, 19, name)?))
+            Err(Fault::Refused(refused_at(alloc, Rule::OrderSize, name)?))
         }
         Some(Held::Opaque) => {
             if is_sized(links, index) {
                 return Ok(());
             }
-            Err(Fault::Refused(refused_at(alloc, 14, name)?))
+            Err(Fault::Refused(refused_at(alloc, Rule::MissingSize, name)?))
         }
     }
 }
 
-/// That each field has a Size at each link to it, or ends the message (else 14 at its name), and that in low order each
-/// scalar has fewer than eight bits or whole bytes (else 19 at its name).
+/// That each field has a Size at each link to it, or ends the message (else MissingSize at its name), and that in low
+/// order each scalar has fewer than eight bits or whole bytes (else OrderSize at its name).
 pub fn fields_sized(
     alloc: Global,
     low: bool,

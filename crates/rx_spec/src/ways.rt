@@ -68,8 +68,8 @@ fn ways_read(alloc: Global, message: &MessageTree) -> Result<Vec<Way>, Fault>
     Ok(ways)
 }
 
-/// The links of a message in order of text: 8 at a target that is no field, 16 where one leads back, 21 where there are
-/// too many fields, links or paths, and 6 where an expression has too many operators.
+/// The links of a message in order of text: UnknownName at a target that is no field, Cycle where one leads back,
+/// GraphLimit where there are too many fields, links or paths, and TooDeep where an expression has too many operators.
 pub(crate) fn ways_of(alloc: Global, name: &Named, message: &MessageTree) -> Result<Vec<Way>, Fault>
     ensures meaning { IfOk result (λ ws. ways_of name.now message.now ≡ Ok ws.items) }
     ensures refusal { IfErr result (λ e. Tells e (ways_of name.now message.now)) }

@@ -8,6 +8,7 @@ mod lexer;
 mod mark;
 mod number;
 mod piece;
+mod rule;
 #[cfg(test)]
 mod tests;
 mod token;
@@ -19,6 +20,7 @@ pub use fault::LexFault;
 pub use law::one_outcome;
 pub use lexer::lex;
 pub use mark::Mark;
+pub use rule::{Refusal, Rule};
 pub use token::{Place, Token, TokenKind, Tokens};
 pub use tree::{
     ActionTree, AspectTree, Attr, ChannelTree, DeclKind, DeclTree, DefTree, EnumAspect, ExprTree,

@@ -1,3 +1,4 @@
+pub mod Codes
 pub mod Coefficients
 pub mod Domain
 pub mod Environment

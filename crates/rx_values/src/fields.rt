@@ -1,12 +1,10 @@
 //! Fields and literals, found by their names and numbers.
 
 ghost use Rattle.std.specs.Prelude.{◌≡◌, ◌≤◌, ◌^◌, ◌==◌, ◌<◌, IfSome, length, find, option_map, slice_get};
-ghost use Rattle.rx_types.specs.Domain.{domain_of};
-ghost use Rattle.rx_graph.specs.Graph.{domains_of, graph_of, type_of};
 ghost use Rattle.rx_values.specs.Names.{field_named, is_same, literal_named, literal_numbered};
 
-use rx_graph::{Field, Message, Spec};
-use rx_types::{FieldId, FieldType, Literal, Name, ScalarType};
+use rx_graph::Field;
+use rx_types::{FieldId, Literal, Name};
 
 // Whether the bytes are the name, whatever the case of their letters.
 fn is_same(name: &Name, bytes: &[u8]) -> bool
@@ -47,22 +45,4 @@ pub(crate) fn literal_numbered<'a>(literals: &'a [Literal], number: u64) -> Opti
     ensures { option_map (λ l. l.now) result ≡ literal_numbered literals.entry.now number }
 {
     literals.iter().find(|literal| literal.number == number)
-}
-
-/// The scalar type of a field, if it is a scalar.
-pub(crate) fn scalar_of<'a>(
-    message: &Message,
-    spec: &'a Spec,
-    field: FieldId,
-) -> Option<&'a ScalarType>
-    ensures { option_map (λ t. domain_of t.now) result ≡ type_of (domains_of spec.entry.now) (graph_of message.now) field }
-{
-    match message.fields.get(field as usize)?.kind {
-        FieldType::Scalar(id) => {
-            let scalar = spec.scalars.get(id as usize)?;
-            Some(&scalar.kind)
-        }
-        FieldType::Opaque => None,
-        FieldType::Sequence(_) => None,
-    }
 }

@@ -12,6 +12,6 @@ mod valuation;
 
 pub use fault::{NoMemory, ValueFault};
 pub use laws::printed_reads_back;
-pub use printing::to_json;
-pub use reading::from_json;
+pub use printing::{json_of, to_json};
+pub use reading::{from_json, valuation_of};
 pub use valuation::{Valuation, Value};

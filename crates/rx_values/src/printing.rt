@@ -3,14 +3,14 @@
 ghost use Rattle.std.specs.Prelude.{◌≡◌, IfOk, option_map, string_bytes};
 ghost use Rattle.serde_json.specs.View.{view, members_view};
 ghost use Rattle.rx_types.specs.Domain.{domain_of};
-ghost use Rattle.rx_graph.specs.Graph.{domains_of, graph_of};
+ghost use Rattle.rx_graph.specs.Graph.{domains_in, domains_of, graph_of};
 ghost use Rattle.rx_values.specs.Valuation.{assigned, content};
 ghost use Rattle.rx_values.specs.Printing.{data_of, json_text, members_of, name_of, scalar_data};
 
 use crate::fault::NoMemory;
-use crate::fields::{literal_numbered, scalar_of};
+use crate::fields::literal_numbered;
 use crate::valuation::{Valuation, Value};
-use rx_graph::{Message, Spec};
+use rx_graph::{Elaborated, Message, Scalar, Spec, scalar_of};
 use rx_types::{FieldId, Name, ScalarType};
 use serde_json::Map;
 use std::alloc::{AllocError, Global};
@@ -77,18 +77,32 @@ fn data_of(
 fn members_of(
     alloc: Global,
     message: &Message,
-    spec: &Spec,
+    scalars: &[Scalar],
     entries: &[(FieldId, Value)],
 ) -> Result<Map<String, serde_json::Value>, AllocError>
-    ensures { IfOk result (λ m. members_view m.entries ≡ members_of (domains_of spec.now) (graph_of message.now) (assigned entries.now)) }
+    ensures { IfOk result (λ m. members_view m.entries ≡ members_of (domains_in scalars.now) (graph_of message.now) (assigned entries.now)) }
 {
     let mut members = Map::new(alloc);
     for entry in entries {
         let name = name_of(alloc, message, entry.0)?;
-        let data = data_of(alloc, scalar_of(message, spec, entry.0), &entry.1)?;
+        let data = data_of(alloc, scalar_of(scalars, message, entry.0), &entry.1)?;
         members.insert(name, data)?;
     }
     Ok(members)
+}
+
+// The text of a valuation.
+fn printed(
+    alloc: Global,
+    message: &Message,
+    scalars: &[Scalar],
+    valuation: &Valuation,
+) -> Result<Vec<u8>, NoMemory>
+    ensures { IfOk result (λ text. text.items ≡ json_text (domains_in scalars.now) (graph_of message.now) valuation.now) }
+{
+    let members = members_of(alloc, message, scalars, valuation.entries())?;
+    let text = serde_json::Value::Object(members).to_string(alloc)?;
+    Ok(text.into_bytes())
 }
 
 /// The valuation as one compact JSON object, keys in byte order.
@@ -100,7 +114,16 @@ pub fn to_json(
 ) -> Result<Vec<u8>, NoMemory>
     ensures { IfOk result (λ text. text.items ≡ json_text (domains_of spec.now) (graph_of message.now) valuation.now) }
 {
-    let members = members_of(alloc, message, spec, valuation.entries())?;
-    let text = serde_json::Value::Object(members).to_string(alloc)?;
-    Ok(text.into_bytes())
+    printed(alloc, message, spec.scalars.as_slice(), valuation)
+}
+
+/// The valuation of an elaborated message as one compact JSON object, keys in byte order.
+pub fn json_of(
+    alloc: Global,
+    message: &Elaborated<'_>,
+    valuation: &Valuation,
+) -> Result<Vec<u8>, NoMemory>
+    ensures { IfOk result (λ text. text.items ≡ json_text message.now.domains message.now.graph valuation.now) }
+{
+    printed(alloc, message.message(), message.scalars(), valuation)
 }

@@ -6,17 +6,17 @@
 ghost use Rattle.std.specs.Prelude.{◌≡◌, ◌≤◌, ◌^◌, [], length, Ok, Err, IfOk, IfErr, IfSome, Some, None, option_map};
 ghost use Rattle.serde_json.specs.View.{view, members_view};
 ghost use Rattle.rx_types.specs.Domain.{domain_of};
-ghost use Rattle.rx_graph.specs.Graph.{domains_of, graph_of};
+ghost use Rattle.rx_graph.specs.Graph.{domains_in, domains_of, graph_of};
 ghost use Rattle.rx_values.specs.Valuation.{content};
 ghost use Rattle.rx_values.specs.Reading.{bytes_from, content_from, if_in, literal_of, scalar_from, json_of, members_in, values_in, with_member, values_from, value_of, IsNoJson, NotJson, UnknownField, BadValue, Duplicate};
 ghost use Rattle.rx_values.specs.Answers.{refusal_of};
 ghost use Rattle.serde_json.specs.Errors.{IsMemory};
 
 use crate::fault::ValueFault;
-use crate::fields::{field_named, literal_named, scalar_of};
+use crate::fields::{field_named, literal_named};
 use crate::valuation::{Valuation, Value};
 use hex::FromHexError;
-use rx_graph::{Message, Spec};
+use rx_graph::{Elaborated, Message, Scalar, Spec, scalar_of};
 use rx_types::{ScalarType, contains};
 use serde_json::{Category, Map};
 use std::alloc::{AllocError, Global};
@@ -126,14 +126,14 @@ fn duplicate(alloc: Global, key: &str) -> ValueFault
 fn with_member(
     alloc: Global,
     message: &Message,
-    spec: &Spec,
+    scalars: &[Scalar],
     values: Valuation,
     key: &str,
     value: &serde_json::Value,
 ) -> Result<Valuation, ValueFault>
     requires { length message.now.fields.items ≤ 2 ^ 16 }
-    ensures ok { IfOk result (λ v. with_member (domains_of spec.now) (graph_of message.now) values key.now (view value.now) ≡ Ok v) }
-    ensures refused { IfErr result (λ e. IfSome (refusal_of e) (λ r. with_member (domains_of spec.now) (graph_of message.now) values key.now (view value.now) ≡ Err r)) }
+    ensures ok { IfOk result (λ v. with_member (domains_in scalars.now) (graph_of message.now) values key.now (view value.now) ≡ Ok v) }
+    ensures refused { IfErr result (λ e. IfSome (refusal_of e) (λ r. with_member (domains_in scalars.now) (graph_of message.now) values key.now (view value.now) ≡ Err r)) }
 {
     let Some(field) = field_named(message.fields.as_slice(), key.as_bytes()) else {
         return Err(unknown_field(alloc, key));
@@ -141,7 +141,7 @@ fn with_member(
     if values.names(field) {
         return Err(duplicate(alloc, key));
     }
-    match content_from(alloc, scalar_of(message, spec, field), value) {
+    match content_from(alloc, scalar_of(scalars, message, field), value) {
         Ok(Some(content)) => Ok(values.put(field, content)?),
         Ok(None) => Err(bad_value(alloc, key)),
         Err(_) => Err(ValueFault::NoMemory),
@@ -152,16 +152,16 @@ fn with_member(
 fn read_members(
     alloc: Global,
     message: &Message,
-    spec: &Spec,
+    scalars: &[Scalar],
     members: &Map<String, serde_json::Value>,
 ) -> Result<Valuation, ValueFault>
     requires { length message.now.fields.items ≤ 2 ^ 16 }
-    ensures ok { IfOk result (λ v. values_from (domains_of spec.now) (graph_of message.now) [] (members_view members.now.entries) ≡ Ok v) }
-    ensures refused { IfErr result (λ e. IfSome (refusal_of e) (λ r. values_from (domains_of spec.now) (graph_of message.now) [] (members_view members.now.entries) ≡ Err r)) }
+    ensures ok { IfOk result (λ v. values_from (domains_in scalars.now) (graph_of message.now) [] (members_view members.now.entries) ≡ Ok v) }
+    ensures refused { IfErr result (λ e. IfSome (refusal_of e) (λ r. values_from (domains_in scalars.now) (graph_of message.now) [] (members_view members.now.entries) ≡ Err r)) }
 {
     let mut values = Valuation::new(alloc);
     for (key, value) in members.iter() {
-        values = with_member(alloc, message, spec, values, key.as_str(), value)?;
+        values = with_member(alloc, message, scalars, values, key.as_str(), value)?;
     }
     Ok(values)
 }
@@ -170,15 +170,15 @@ fn read_members(
 fn from_value(
     alloc: Global,
     message: &Message,
-    spec: &Spec,
+    scalars: &[Scalar],
     value: &serde_json::Value,
 ) -> Result<Valuation, ValueFault>
     requires { length message.now.fields.items ≤ 2 ^ 16 }
-    ensures ok { IfOk result (λ v. values_in (domains_of spec.now) (graph_of message.now) (members_in (view value.now)) ≡ Ok v) }
-    ensures refused { IfErr result (λ e. IfSome (refusal_of e) (λ r. values_in (domains_of spec.now) (graph_of message.now) (members_in (view value.now)) ≡ Err r)) }
+    ensures ok { IfOk result (λ v. values_in (domains_in scalars.now) (graph_of message.now) (members_in (view value.now)) ≡ Ok v) }
+    ensures refused { IfErr result (λ e. IfSome (refusal_of e) (λ r. values_in (domains_in scalars.now) (graph_of message.now) (members_in (view value.now)) ≡ Err r)) }
 {
     match value.as_object() {
-        Some(members) => read_members(alloc, message, spec, members),
+        Some(members) => read_members(alloc, message, scalars, members),
         None => Err(ValueFault::NotObject),
     }
 }
@@ -205,6 +205,23 @@ fn parse(alloc: Global, text: &[u8]) -> Result<serde_json::Value, ValueFault>
     }
 }
 
+// The valuation that a text is.
+fn values_of(
+    alloc: Global,
+    message: &Message,
+    scalars: &[Scalar],
+    text: &[u8],
+) -> Result<Valuation, ValueFault>
+    requires { length message.now.fields.items ≤ 2 ^ 16 }
+    ensures ok { IfOk result (λ v. value_of (domains_in scalars.now) (graph_of message.now) text.now ≡ Ok v) }
+    ensures refused { IfErr result (λ e. IfSome (refusal_of e) (λ r. value_of (domains_in scalars.now) (graph_of message.now) text.now ≡ Err r)) }
+{
+    match parse(alloc, text) {
+        Ok(value) => from_value(alloc, message, scalars, &value),
+        Err(fault) => Err(fault),
+    }
+}
+
 /// The valuation that a JSON text is for a message, or why it is none: the first refusal in the order
 /// of the keys' bytes.
 pub fn from_json(
@@ -217,8 +234,17 @@ pub fn from_json(
     ensures ok { IfOk result (λ v. value_of (domains_of spec.now) (graph_of message.now) text.now ≡ Ok v) }
     ensures refused { IfErr result (λ e. IfSome (refusal_of e) (λ r. value_of (domains_of spec.now) (graph_of message.now) text.now ≡ Err r)) }
 {
-    match parse(alloc, text) {
-        Ok(value) => from_value(alloc, message, spec, &value),
-        Err(fault) => Err(fault),
-    }
+    values_of(alloc, message, spec.scalars.as_slice(), text)
+}
+
+/// The valuation that a JSON text is for an elaborated message, or why it is none.
+pub fn valuation_of(
+    alloc: Global,
+    message: &Elaborated<'_>,
+    text: &[u8],
+) -> Result<Valuation, ValueFault>
+    ensures ok { IfOk result (λ v. value_of message.now.domains message.now.graph text.now ≡ Ok v) }
+    ensures refused { IfErr result (λ e. IfSome (refusal_of e) (λ r. value_of message.now.domains message.now.graph text.now ≡ Err r)) }
+{
+    values_of(alloc, message.message(), message.scalars(), text)
 }

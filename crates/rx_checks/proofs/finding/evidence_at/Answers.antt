@@ -1,5 +1,4 @@
 use Rattle.std.proofs.Common.{ap, ◌∙◌, List, ℕ, take, drop, get_or, pos}
-use Rattle.rx_graph.specs.Graph.{domains_of, graph_of}
 use Rattle.rx_forms.specs.Steps.{links_on, scalars_on}
 use Rattle.rx_checks.specs.declared.verdict.Evidence.{Evidence}
 use Rattle.rx_checks.specs.Told.{IsEvidence, TellsNumbers}
@@ -9,31 +8,31 @@ use Rattle.rx_checks.proofs.finding.evidence_at.Goals as goal
 
 pub numbered_at-requires-clause-long : goal.numbered_at-requires-clause-long
 numbered_at-requires-clause-long c =
-    let domains = domains_of c.args.spec.now in
-    let m = graph_of c.args.message.now in
+    let domains = c.args.message.now.domains in
+    let m = c.args.message.now.graph in
     let count = c.scalars_along-count.ensures ∙ ap (λ (p : List ℕ). scalars_on domains m (links_on domains m p)) c.links.ensures in
     (front_of domains m c.args.goal.now c.args.path.now c.args.point.now c.scalars_along-count.result (c.points_meet_goals.ensures c.args.goal.now c.args.path.now c.args.point.now c.requires.goal c.requires.path c.requires.point) count).long
 
 pub numbered_at-requires-clause-total : goal.numbered_at-requires-clause-total
 numbered_at-requires-clause-total c =
-    let domains = domains_of c.args.spec.now in
-    let m = graph_of c.args.message.now in
+    let domains = c.args.message.now.domains in
+    let m = c.args.message.now.graph in
     let count = c.scalars_along-count.ensures ∙ ap (λ (p : List ℕ). scalars_on domains m (links_on domains m p)) c.links.ensures in
     front_total domains m c.args.goal.now c.args.path.now c.args.point.now c.scalars_along-count.result
     (front_of domains m c.args.goal.now c.args.path.now c.args.point.now c.scalars_along-count.result (c.points_meet_goals.ensures c.args.goal.now c.args.path.now c.args.point.now c.requires.goal c.requires.path c.requires.point) count)
 
 pub numbered_at-requires-clause-numbers : goal.numbered_at-requires-clause-numbers
 numbered_at-requires-clause-numbers c =
-    let domains = domains_of c.args.spec.now in
-    let m = graph_of c.args.message.now in
+    let domains = c.args.message.now.domains in
+    let m = c.args.message.now.graph in
     let count = c.scalars_along-count.ensures ∙ ap (λ (p : List ℕ). scalars_on domains m (links_on domains m p)) c.links.ensures in
-    front_numbers domains m c.requires.elaborated c.args.goal.now c.args.path.now c.args.point.now c.scalars_along-count.result
+    front_numbers domains m c.is_known.ensures.elaborated c.args.goal.now c.args.path.now c.args.point.now c.scalars_along-count.result
     (front_of domains m c.args.goal.now c.args.path.now c.args.point.now c.scalars_along-count.result (c.points_meet_goals.ensures c.args.goal.now c.args.path.now c.args.point.now c.requires.goal c.requires.path c.requires.point) count)
 
 pub returns : goal.returns
 returns c =
-    let domains = domains_of c.args.spec.now in
-    let m = graph_of c.args.message.now in
+    let domains = c.args.message.now.domains in
+    let m = c.args.message.now.graph in
     let n = c.scalars_along-count.result in
     let point = c.args.point.now in
     let count = c.scalars_along-count.ensures ∙ ap (λ (p : List ℕ). scalars_on domains m (links_on domains m p)) c.links.ensures in

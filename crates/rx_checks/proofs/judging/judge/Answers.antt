@@ -1,5 +1,4 @@
 use Rattle.std.proofs.Common.{subst, rules, ◌+◌, ◌-◌, length, take, drop, List, ◌∷◌, ℕ}
-use Rattle.rx_graph.specs.Graph.{domains_of, graph_of}
 use Rattle.rx_prover.specs.declared.answer.Answer.{Answer}
 use Rattle.rx_prover.specs.declared.answer.Answer.TheVariants.{Point, Undecided}
 use Rattle.rx_prover.specs.Answers.{AnswersReached}
@@ -11,8 +10,8 @@ use Rattle.rx_checks.proofs.judging.judge.Goals as goal
 
 pub returns-in-Point : goal.returns-in-Point
 returns-in-Point c =
-    let domains = domains_of c.args.spec.now in
-    let m = graph_of c.args.message.now in
+    let domains = c.args.message.now.domains in
+    let m = c.args.message.now.graph in
     let goal = c.args.goal.now in
     let path = c.index-paths-place.result in
     let q = query_for domains m goal path in
@@ -24,8 +23,8 @@ returns-in-Point c =
 
 pub returns-in-Undecided : goal.returns-in-Undecided
 returns-in-Undecided c =
-    let domains = domains_of c.args.spec.now in
-    let m = graph_of c.args.message.now in
+    let domains = c.args.message.now.domains in
+    let m = c.args.message.now.graph in
     let goal = c.args.goal.now in
     let path = c.index-paths-place.result in
     let rest = take (length c.args.paths.now - (c.loop-place.place + 1)) (drop (c.loop-place.place + 1) c.args.paths.now) in
@@ -38,8 +37,8 @@ returns-in-Undecided c =
 
 pub loop-place-preserved : goal.loop-place-preserved
 loop-place-preserved c =
-    let domains = domains_of c.args.spec.now in
-    let m = graph_of c.args.message.now in
+    let domains = c.args.message.now.domains in
+    let m = c.args.message.now.graph in
     let goal = c.args.goal.now in
     let path = c.index-paths-place.result in
     let q = query_for domains m goal path in

@@ -1,10 +1,9 @@
 use Rattle.std.proofs.Common.{◌≡◌, length}
-use Rattle.rx_graph.specs.Graph.{graph_of}
 use Rattle.rx_checks.specs.Table.{HavePaths}
 use Rattle.rx_checks.proofs.table.paths_by_node.Given as goal
 
 abbrev pub invariant-loop-place : goal.invariant-loop-place
 invariant-loop-place l = record {
   count : length l.table.items ≡ l.place;
-  have : HavePaths (graph_of l.message) 0 l.table.items;
+  have : HavePaths l.message.graph 0 l.table.items;
 }

@@ -3,11 +3,14 @@ use Rattle.std.specs.Prelude.{slice_get}
 use Rattle.std.proofs.lemmas.Bool.{cases_lt}
 use Rattle.rx_graph.specs.declared.message.Link.{Link}
 use Rattle.rx_graph.specs.Graph.{Arrow, arrow_of, arrows}
+use Rattle.rx_graph.specs.Checks.{is_node}
 use Rattle.rx_graph.specs.Paths.{IsTrue}
+use Rattle.rx_graph.proofs.Exclusions.{is_itself}
+use Rattle.rx_graph.proofs.Listed.{same_node}
 use Rattle.rx_context.specs.Plan.{planned}
 use Rattle.rx_context.proofs.Arrows.{link_at, same_arrow, arrow_within}
 use Rattle.rx_context.proofs.Standing.{in_span, has_values}
-use Rattle.rx_context.proofs.advance.taken_link.Goals.{else-is_same-via-then-is_same+else-truth, else-is_same-via-else-is_same}
+use Rattle.rx_context.proofs.advance.taken_link.Goals.{else-is-via-then-is+else-truth, else-is-via-else-is}
 use Rattle.rx_context.proofs.advance.taken_link.Goals as goal
 
 clash : true ≡ false → ⊥
@@ -37,7 +40,7 @@ truth-requires c =
 
 pub returns-then-truth-clause-some : goal.returns-then-truth-clause-some
 returns-then-truth-clause-some c =
-    (c.loop-index.index, here c.args.kept.now.message.links.items c.as_slice-links.result.now c.loop-index.index c.span-found.result.end c.index-links-index.result c.as_slice-links.ensures.value (omega (arith, c.loop-index-test.true, c.min-index-end.ensures)) c.index-links-index.is, c.is_same.ensures.0 c.if-is_same.true, sym c.truth.ensures ∙ c.if-truth.true)
+    (c.loop-index.index, here c.args.kept.now.message.links.items c.as_slice-links.result.now c.loop-index.index c.span-found.result.end c.index-links-index.result c.as_slice-links.ensures.value (omega (arith, c.loop-index-test.true, c.min-index-end.ensures)) c.index-links-index.is, same_node c.index-links-index.result.source c.args.at (sym c.is.ensures ∙ c.if-is.true), sym c.truth.ensures ∙ c.if-truth.true)
 
 pub loop-index-preserved : goal.loop-index-preserved
 loop-index-preserved c =
@@ -47,7 +50,7 @@ loop-index-preserved c =
           let same : arrow_of c.index-links-index.result ≡ link = this c.args.kept.now.message.links.items c.as_slice-links.result.now c.loop-index.index k c.index-links-index.result link c.as_slice-links.ensures.value c.index-links-index.is e is in
           let at : c.index-links-index.result.source ≡ c.args.at = ap (λ x. x.source) same ∙ source in
           let holds : IsTrue (arrow_of c.index-links-index.result) c.args.env.now = subst (λ x. IsTrue x c.args.env.now) (sym same) taken in
-          elim c.else-is_same.branch [ else-is_same-via-then-is_same+else-truth w ↦ clash (sym holds ∙ sym w.truth.ensures ∙ w.if-truth.false) | else-is_same-via-else-is_same w ↦ clash (sym (c.is_same.ensures.1 at) ∙ w.if-is_same.false) ])
+          elim c.else-is.branch [ else-is-via-then-is+else-truth w ↦ clash (sym holds ∙ sym w.truth.ensures ∙ w.if-truth.false) | else-is-via-else-is w ↦ clash (sym (c.is.ensures ∙ ap (λ n. is_node n c.args.at) at ∙ is_itself c.args.at) ∙ w.if-is.false) ])
     ]
 
 pub returns-clause-none : goal.returns-clause-none

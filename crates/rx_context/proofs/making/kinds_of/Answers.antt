@@ -1,14 +1,14 @@
 use Rattle.std.proofs.Common.{◌≡◌, [], ◌∷◌, length, Some, sym, ap, ◌∙◌, subst, length-append, arith}
 use Rattle.std.specs.Prelude.{slice_get}
 use Rattle.std.proofs.lemmas.Option.{slice_get-get_or}
-use Rattle.rx_graph.specs.Graph.{domains_of, graph_of}
+use Rattle.rx_graph.specs.Graph.{domains_in, graph_of}
 use Rattle.rx_context.specs.Plan.{kind_if_any}
 use Rattle.rx_context.proofs.Spans.{kinds_more, kinds_all}
 use Rattle.rx_context.proofs.making.kinds_of.Goals as goal
 
 pub loop-field-preserved : goal.loop-field-preserved
 loop-field-preserved c =
-    let domains = domains_of c.args.spec.now in
+    let domains = domains_in c.args.scalars.now in
     let m = graph_of c.args.message.now in
     let i = c.loop-field.field-index in
     let field = c.field-item.result in
@@ -23,4 +23,4 @@ loop-field-preserved c =
 
 pub returns : goal.returns
 returns c =
-    kinds_all (domains_of c.args.spec.now) (graph_of c.args.message.now) c.loop-field.kinds.items c.loop-field.field-index c.loop-field.invariant.count (omega (arith, c.loop-field-test.false, ap length c.as_slice-field-items.ensures.value)) c.loop-field.invariant.types
+    kinds_all (domains_in c.args.scalars.now) (graph_of c.args.message.now) c.loop-field.kinds.items c.loop-field.field-index c.loop-field.invariant.count (omega (arith, c.loop-field-test.false, ap length c.as_slice-field-items.ensures.value)) c.loop-field.invariant.types

@@ -1,7 +1,7 @@
 use Rattle.std.proofs.Common.{◌+◌, [], ◌∷◌, ◌++◌, length, sym, ap, ◌∙◌, subst, length-append, arith}
 use Rattle.std.specs.Prelude.{slice_get}
 use Rattle.rx_graph.specs.declared.message.Node.TheVariants.{Start, At}
-use Rattle.rx_graph.specs.Graph.{arrows, domains_of, graph_of}
+use Rattle.rx_graph.specs.Graph.{arrows, domains_in, graph_of}
 use Rattle.rx_context.specs.Plan.{IsSpanOf, span_or_none}
 use Rattle.rx_context.proofs.Spans.{span_added, span_kept, span_more, are_spans}
 use Rattle.rx_context.proofs.making.spans_of.Goals as goal
@@ -33,4 +33,4 @@ loop-field-preserved c =
 
 pub returns : goal.returns
 returns c =
-    are_spans (domains_of c.args.spec.now) (graph_of c.args.message.now) c.loop-field.spans.items c.loop-field.field c.requires (omega (arith, c.loop-field-test.false, c.len-field-end.ensures)) c.loop-field.invariant.start c.loop-field.invariant.fields
+    are_spans (domains_in c.args.scalars.now) (graph_of c.args.message.now) c.loop-field.spans.items c.loop-field.field c.requires (omega (arith, c.loop-field-test.false, c.len-field-end.ensures)) c.loop-field.invariant.start c.loop-field.invariant.fields

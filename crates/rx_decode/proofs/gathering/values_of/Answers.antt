@@ -1,12 +1,11 @@
 use Rattle.std.proofs.Common.{◌≤◌, length, rules}
-use Rattle.rx_graph.specs.Graph.{domains_of, graph_of}
 use Rattle.rx_decode.proofs.Fitting.{reads_as}
 use Rattle.rx_decode.proofs.gathering.values_of.Goals as goal
 
 pub returns-clause-reads : goal.returns-clause-reads
 returns-clause-reads c =
-    let domains = domains_of c.args.spec.now in
-    let m = graph_of c.args.message.now in
+    let domains = c.args.message.now.domains in
+    let m = c.args.message.now.graph in
     let v = c.args.verified.now in
     let path = c.requires.reads domains m c.requires.stands in
     let all : length m.fields ≤ c.loop-field.field = search rules in

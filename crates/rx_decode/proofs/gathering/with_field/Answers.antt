@@ -1,6 +1,5 @@
 use Rattle.std.proofs.Common.{◌+◌, sym, subst, rules}
 use Rattle.std.specs.Prelude.{IsTrue}
-use Rattle.rx_graph.specs.Graph.{domains_of, graph_of}
 use Rattle.rx_values.specs.Valuation.{content}
 use Rattle.rx_decode.specs.Gathered.{IsGathered}
 use Rattle.rx_decode.proofs.Collected.{more}
@@ -8,8 +7,8 @@ use Rattle.rx_decode.proofs.gathering.with_field.Goals as goal
 
 pub returns : goal.returns
 returns c =
-    let domains = domains_of c.args.spec.now in
-    let m = graph_of c.args.message.now in
+    let domains = c.args.message.now.domains in
+    let m = c.args.message.now.graph in
     let v = c.args.verified.now in
     let here : IsTrue c.present.result = search rules in
     let one_more = more domains m v.bytes v.fields c.args.field c.args.values c.requires.gathered (content c.in_ok-value.value) (c.present.ensures.0 here) c.in_ok-value.ensures in

@@ -3,7 +3,7 @@ use Rattle.std.proofs.lemmas.Result.{IfOk-weaker}
 use Rattle.rx_types.specs.Tree.{Tree, tree_if_any}
 use Rattle.rx_forms.specs.declared.fault.FormFault.TheVariants.{PathLimit}
 use Rattle.rx_forms.specs.Steps.{end_form, form_or, IsNumericIfAny, IsNarrowIfAny}
-use Rattle.rx_forms.specs.Code.{formed_all, limits_in}
+use Rattle.rx_forms.specs.Code.{formed_all, limits}
 use Rattle.rx_forms.specs.Worked.{HasAspect, aspect_within}
 use Rattle.rx_forms.proofs.Aspects
 use Rattle.rx_forms.proofs.Reaching.{fails_too}
@@ -11,7 +11,7 @@ use Rattle.rx_forms.proofs.aspect.first_form.Goals as goal
 
 pub said-requires : goal.said-requires
 said-requires c =
-    let limit = limits_in c.args.scalars.now c.args.message.now in
+    let limit = limits c.args.message.now in
     let x = ap tree_if_any c.in-Some.is in
     record {
       numeric = subst IsNumericIfAny x c.requires.numeric;
@@ -21,7 +21,7 @@ said-requires c =
 
 pub returns-in-Some : goal.returns-in-Some
 returns-in-Some c =
-    let limit = limits_in c.args.scalars.now c.args.message.now in
+    let limit = limits c.args.message.now in
     let fields = formed_all c.args.fields.now in
     let otherwise = end_form fields in
     let n = c.args.work.now.next in
@@ -34,7 +34,7 @@ returns-in-Some c =
 
 pub returns-in-None : goal.returns-in-None
 returns-in-None c =
-    let limit = limits_in c.args.scalars.now c.args.message.now in
+    let limit = limits c.args.message.now in
     let fields = formed_all c.args.fields.now in
     let otherwise = end_form fields in
     let n = c.args.work.now.next in

@@ -5,7 +5,7 @@ use Rattle.rx_forms.specs.declared.fault.FormFault.TheVariants.{PathLimit}
 use Rattle.rx_forms.specs.Linear.{minus}
 use Rattle.rx_forms.specs.Normal.{bits}
 use Rattle.rx_forms.specs.Steps.{form_or, IsNumericIfAny, IsNarrowIfAny}
-use Rattle.rx_forms.specs.Code.{formed_all, limits_in}
+use Rattle.rx_forms.specs.Code.{formed_all, limits}
 use Rattle.rx_forms.specs.Worked.{HasAspect, aspect_within}
 use Rattle.rx_forms.proofs.Aspects
 use Rattle.rx_forms.proofs.Reaching.{fails_too}
@@ -13,7 +13,7 @@ use Rattle.rx_forms.proofs.aspect.open_size.Goals as goal
 
 pub said-requires : goal.said-requires
 said-requires c =
-    let limit = limits_in c.args.scalars.now c.args.message.now in
+    let limit = limits c.args.message.now in
     let x = ap tree_if_any c.in-Some.is in
     record {
       numeric = subst IsNumericIfAny x c.requires.numeric;
@@ -23,7 +23,7 @@ said-requires c =
 
 pub returns-in-Some : goal.returns-in-Some
 returns-in-Some c =
-    let limit = limits_in c.args.scalars.now c.args.message.now in
+    let limit = limits c.args.message.now in
     let fields = formed_all c.args.fields.now in
     let otherwise = minus bits c.args.first.now in
     let n = c.args.work.now.next in
@@ -36,7 +36,7 @@ returns-in-Some c =
 
 pub returns-in-None : goal.returns-in-None
 returns-in-None c =
-    let limit = limits_in c.args.scalars.now c.args.message.now in
+    let limit = limits c.args.message.now in
     let fields = formed_all c.args.fields.now in
     let otherwise = minus bits c.args.first.now in
     let n = c.args.work.now.next in

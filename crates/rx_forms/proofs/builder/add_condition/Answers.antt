@@ -1,10 +1,10 @@
 use Rattle.std.proofs.Common.{◌≡◌, refl, subst, List, true, false}
 use Rattle.std.proofs.lemmas.Result.{err_from_is_err_and, IfOk-from_err}
 use Rattle.rx_types.specs.Tree.{tree_of}
-use Rattle.rx_graph.specs.Graph.{graph_of, arrow_of}
+use Rattle.rx_graph.specs.Graph.{arrow_of}
 use Rattle.rx_forms.specs.declared.field.FieldForms.{FieldForms}
 use Rattle.rx_forms.specs.Limits.{is_within}
-use Rattle.rx_forms.specs.Code.{formed_all, domains_in, limits_in}
+use Rattle.rx_forms.specs.Code.{formed_all, limits}
 use Rattle.rx_forms.specs.Worked.{HasFact}
 use Rattle.rx_forms.specs.Fronts.{front_of}
 use Rattle.rx_forms.proofs.Building.{end_goes, same_front}
@@ -43,14 +43,14 @@ returns-in_err-push-clause-limit c =
 
 pub returns : goal.returns
 returns c =
-    let limit = limits_in c.args.scalars.now c.args.message.now in
+    let limit = limits c.args.message.now in
     let w0 = c.args.builder.now.work in
     let w1 = c.condition_form.new.work in
     let f = c.in_ok-fact.fact in
     let link = arrow_of c.args.link.now in
     let p = subst (λ (fs : List FieldForms). HasFact limit (formed_all fs) true link.condition w0 w1 f) c.as_slice.ensures.value c.in_ok-fact.ensures.fact in
     record {
-      gone = end_goes (domains_in c.args.scalars.now) (graph_of c.args.message.now) (front_of c.args.builder.now) _ link w0 w1 f refl refl p (same_front _ _ refl refl refl refl refl refl c.in_ok-push.ensures.ok);
+      gone = end_goes c.args.message.now.domains c.args.message.now.graph (front_of c.args.builder.now) _ link w0 w1 f refl refl p (same_front _ _ refl refl refl refl refl refl c.in_ok-push.ensures.ok);
       within = p.goes.within;
       limit = tt;
     }

@@ -1,9 +1,8 @@
 use Rattle.std.proofs.Common.{refl, ap, ◌∙◌, ◌+◌, ◌++◌, ◌∷◌, [], ℕ, arith}
 use Rattle.std.proofs.lemmas.Result.{err_from_is_err_and, IfOk-from_err}
-use Rattle.rx_graph.specs.Graph.{graph_of, type_of}
 use Rattle.rx_forms.specs.declared.linear.Linear.{Linear}
 use Rattle.rx_forms.specs.Linear.{plus}
-use Rattle.rx_forms.specs.Code.{formed_all, domains_in, number_by}
+use Rattle.rx_forms.specs.Code.{formed_all, number_by}
 use Rattle.rx_forms.proofs.Building.{same_front}
 use Rattle.rx_forms.proofs.builder.add_field.Goals as goal
 
@@ -41,7 +40,6 @@ overflow_add-builder c = omega (arith, c.requires.small, c.scalars_in.ensures.on
 
 pub returns : goal.returns
 returns c =
-    let type = type_of (domains_in c.args.scalars.now) (graph_of c.args.message.now) c.args.field in
     let old = formed_all c.args.builder.now.fields.items in
     record {
       gone = same_front _ _

@@ -1,9 +1,8 @@
 use Rattle.std.proofs.Common.{sym, ap, ◌∙◌, subst, ℕ, ◌<◌, ◌^◌, Option}
 use Rattle.std.proofs.lemmas.Result.{err_from_is_err_and, IfOk-from_err, on_ok_weaker}
 use Rattle.rx_types.specs.Domain.{Domain}
-use Rattle.rx_graph.specs.Graph.{graph_of, arrow_of, type_of}
+use Rattle.rx_graph.specs.Graph.{arrow_of, type_of}
 use Rattle.rx_forms.specs.Steps.{target_field}
-use Rattle.rx_forms.specs.Code.{domains_in}
 use Rattle.rx_forms.specs.Fronts.{front_of, Front, after_place, after_end, place_within}
 use Rattle.rx_forms.proofs.Kept.{off_left, off_right, on_both}
 use Rattle.rx_forms.proofs.Building
@@ -28,7 +27,7 @@ returns-in_err-add_condition-clause-within c = IfOk-from_err c.from_residual.res
 pub returns-in_err-add_condition-clause-limit : goal.returns-in_err-add_condition-clause-limit
 returns-in_err-add_condition-clause-limit c =
     let p = err_from_is_err_and c.from_residual.result c.from_residual.ensures.1 in
-    let t = Building.link_test (domains_in c.args.scalars.now) (graph_of c.args.message.now) (front_of c.args.builder.now) (arrow_of c.args.link.now) in
+    let t = Building.link_test c.args.message.now.domains c.args.message.now.graph (front_of c.args.builder.now) (arrow_of c.args.link.now) in
     rw (p.1, p.2) (λ e. t ∙ off_left _ _ (c.in_err-add_condition.ensures.limit e))
 
 pub place-requires-clause-formable : goal.place-requires-clause-formable
@@ -48,11 +47,10 @@ place-requires-clause-room c = Building.room_behind _ _ _ _ c.in_ok-add_conditio
 
 pub returns : goal.returns
 returns c =
-    let domains = domains_in c.args.scalars.now in
-    let m = graph_of c.args.message.now in
+    let domains = c.args.message.now.domains in
+    let m = c.args.message.now.graph in
     let front = front_of c.args.builder.now in
     let link = arrow_of c.args.link.now in
-    let mid = front_of c.add_condition.new.builder in
     let g = c.in_ok-add_condition.ensures.gone in
     let t = Building.link_test domains m front link in
     let y = sym (ap (λ (k : ℕ). type_of domains m k) (ap target_field c.requires.target)) in

@@ -1,10 +1,10 @@
 use Rattle.std.proofs.Common.{◌≡◌, refl, subst, List, false}
 use Rattle.std.proofs.lemmas.Result.{err_from_is_err_and, IfOk-from_err, on_ok_weaker}
 use Rattle.rx_types.specs.Tree.{tree_if_any}
-use Rattle.rx_graph.specs.Graph.{graph_of, arrow_of, type_of}
+use Rattle.rx_graph.specs.Graph.{arrow_of, type_of}
 use Rattle.rx_forms.specs.declared.field.FieldForms.{FieldForms}
 use Rattle.rx_forms.specs.Steps.{form_or, end_form, size_aspect}
-use Rattle.rx_forms.specs.Code.{formed_all, domains_in, limits_in}
+use Rattle.rx_forms.specs.Code.{formed_all, limits}
 use Rattle.rx_forms.specs.Worked.{HasAspect, aspect_within, size_otherwise}
 use Rattle.rx_forms.specs.Fronts.{front_of}
 use Rattle.rx_forms.proofs.Kept.{off_left}
@@ -48,9 +48,9 @@ returns-in_err-first-clause-limit c =
 
 pub returns-in_err-size : goal.returns-in_err-size
 returns-in_err-size c =
-    let domains = domains_in c.args.scalars.now in
-    let m = graph_of c.args.message.now in
-    let limit = limits_in c.args.scalars.now c.args.message.now in
+    let domains = c.args.message.now.domains in
+    let m = c.args.message.now.graph in
+    let limit = limits c.args.message.now in
     let type = type_of domains m c.args.field in
     let front = front_of c.args.builder.now in
     let link = arrow_of c.args.link.now in
@@ -67,9 +67,9 @@ returns-in_err-size c =
 
 pub returns : goal.returns
 returns c =
-    let domains = domains_in c.args.scalars.now in
-    let m = graph_of c.args.message.now in
-    let limit = limits_in c.args.scalars.now c.args.message.now in
+    let domains = c.args.message.now.domains in
+    let m = c.args.message.now.graph in
+    let limit = limits c.args.message.now in
     let type = type_of domains m c.args.field in
     let front = front_of c.args.builder.now in
     let link = arrow_of c.args.link.now in

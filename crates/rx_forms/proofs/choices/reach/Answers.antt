@@ -1,9 +1,7 @@
 use Rattle.std.proofs.Common.{◌≡◌, sym, ap, ◌∙◌, ℕ, ◌+◌, ◌≤◌, ◌<◌, arith, false, ◌&&◌}
 use Rattle.std.proofs.lemmas.Result.{err_from_is_err_and, IfOk-from_err}
-use Rattle.rx_graph.specs.Graph.{graph_of}
 use Rattle.rx_forms.specs.Gathered.{into_fields}
 use Rattle.rx_forms.specs.Steps.{links_on}
-use Rattle.rx_forms.specs.Code.{domains_in}
 use Rattle.rx_forms.specs.Fronts.{Front, first_front, after_links, links_within, after_ends, ends_within, ends_of}
 use Rattle.rx_forms.proofs.Kept.{on_both}
 use Rattle.rx_forms.proofs.choices.reach.Goals as goal
@@ -21,16 +19,14 @@ pub gather_path-requires : goal.gather_path-requires
 gather_path-requires c =
     let e = c.start-builder.ensures in
     record {
-      formable = c.requires.formable;
-      narrow = c.requires.narrow;
       few = few_ends c.start-builder.result.scalar c.args.count _ (ap (λ (x : Front). x.scalar) e) c.requires.count c.requires.few;
       room = room_first c.start-builder.result.work.next c.args.count (ap (λ (x : Front). x.division) e) c.requires.few;
     }
 
 pub returns-in_err-gather_path : goal.returns-in_err-gather_path
 returns-in_err-gather_path c =
-    let domains = domains_in c.args.scalars.now in
-    let m = graph_of c.args.message.now in
+    let domains = c.args.message.now.domains in
+    let m = c.args.message.now.graph in
     let into = into_fields (links_on domains m c.args.path.now) in
     let ends = ends_of false (links_on domains m c.args.path.now) in
     let e = c.start-builder.ensures ∙ ap first_front c.requires.count in
@@ -44,8 +40,8 @@ returns-in_err-gather_path c =
 
 pub returns : goal.returns
 returns c =
-    let domains = domains_in c.args.scalars.now in
-    let m = graph_of c.args.message.now in
+    let domains = c.args.message.now.domains in
+    let m = c.args.message.now.graph in
     let into = into_fields (links_on domains m c.args.path.now) in
     let ends = ends_of false (links_on domains m c.args.path.now) in
     let e = c.start-builder.ensures ∙ ap first_front c.requires.count in

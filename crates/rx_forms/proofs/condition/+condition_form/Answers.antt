@@ -7,7 +7,7 @@ use Rattle.rx_types.specs.Narrow.{IsNarrow}
 use Rattle.rx_forms.specs.Normal.{IsCondition, joined}
 use Rattle.rx_forms.specs.Limits.{is_within}
 use Rattle.rx_forms.specs.Worked.{HasFact, spelled_in}
-use Rattle.rx_forms.specs.Code.{formed_all, limits_in}
+use Rattle.rx_forms.specs.Code.{formed_all, limits}
 use Rattle.rx_forms.proofs.Facts
 use Rattle.rx_forms.proofs.Numbers
 use Rattle.rx_forms.proofs.Reaching.{fails_too}
@@ -15,28 +15,28 @@ use Rattle.rx_forms.proofs.condition.+condition_form.Goals as goal
 
 pub condition_form-requires : goal.condition_form-requires
 condition_form-requires t c =
-    let limit = limits_in c.args.scalars.now c.args.message.now in
+    let limit = limits c.args.message.now in
     let fields = formed_all c.args.fields.now in
     let x = ap tree_of c.in-Not.is ∙ ap (λ (y : Expr). Not (tree_of y)) (sym c.deref.ensures) in
     (search (rules, the_lemmas), (subst (λ (y : Tree). IsCondition limit y) x c.requires.condition, ((subst (λ (y : Tree). IsNarrow limit y) x c.requires.narrow).1, c.requires.room)))
 
 pub returns-in-Not-clause-fact : goal.returns-in-Not-clause-fact
 returns-in-Not-clause-fact t c =
-    let limit = limits_in c.args.scalars.now c.args.message.now in
+    let limit = limits c.args.message.now in
     let fields = formed_all c.args.fields.now in
     let x = ap tree_of c.in-Not.is ∙ ap (λ (y : Expr). Not (tree_of y)) (sym c.deref.ensures) in
     Facts.not_ok limit fields _ c.args.wanted _ _ _ c.condition_form.result x c.condition_form.ensures.fact
 
 pub returns-in-Not-clause-limit : goal.returns-in-Not-clause-limit
 returns-in-Not-clause-limit t c =
-    let limit = limits_in c.args.scalars.now c.args.message.now in
+    let limit = limits c.args.message.now in
     let fields = formed_all c.args.fields.now in
     let x = ap tree_of c.in-Not.is ∙ ap (λ (y : Expr). Not (tree_of y)) (sym c.deref.ensures) in
     fails_too c.condition_form.result _ _ (λ h. ap (λ (y : Tree). is_within fields c.args.work.now.next y) x ∙ h) c.condition_form.ensures.limit
 
 pub condition_form-requires-in-And : goal.condition_form-requires-in-And
 condition_form-requires-in-And t c =
-    let limit = limits_in c.args.scalars.now c.args.message.now in
+    let limit = limits c.args.message.now in
     let fields = formed_all c.args.fields.now in
     let x0 = ap tree_of c.in-Binary.is in
     let o = c.in-Binary.operator in
@@ -46,7 +46,7 @@ condition_form-requires-in-And t c =
 
 pub condition_form-requires-in-And-2 : goal.condition_form-requires-in-And-2
 condition_form-requires-in-And-2 t c =
-    let limit = limits_in c.args.scalars.now c.args.message.now in
+    let limit = limits c.args.message.now in
     let fields = formed_all c.args.fields.now in
     let x0 = ap tree_of c.in-Binary.is in
     let o = c.in-Binary.operator in
@@ -68,7 +68,7 @@ returns-in_err-pair-in-And-clause-fact t c =
 
 pub returns-in_err-left-in-And-clause-limit : goal.returns-in_err-left-in-And-clause-limit
 returns-in_err-left-in-And-clause-limit t c =
-    let limit = limits_in c.args.scalars.now c.args.message.now in
+    let limit = limits c.args.message.now in
     let fields = formed_all c.args.fields.now in
     let x0 = ap tree_of c.in-Binary.is in
     let o = c.in-Binary.operator in
@@ -79,7 +79,7 @@ returns-in_err-left-in-And-clause-limit t c =
 
 pub returns-in_err-right-in-And-clause-limit : goal.returns-in_err-right-in-And-clause-limit
 returns-in_err-right-in-And-clause-limit t c =
-    let limit = limits_in c.args.scalars.now c.args.message.now in
+    let limit = limits c.args.message.now in
     let fields = formed_all c.args.fields.now in
     let x0 = ap tree_of c.in-Binary.is in
     let o = c.in-Binary.operator in
@@ -95,7 +95,7 @@ returns-in_err-pair-in-And-clause-limit t c =
 
 pub returns-in_ok-pair-in-And-clause-fact : goal.returns-in_ok-pair-in-And-clause-fact
 returns-in_ok-pair-in-And-clause-fact t c =
-    let limit = limits_in c.args.scalars.now c.args.message.now in
+    let limit = limits c.args.message.now in
     let fields = formed_all c.args.fields.now in
     let x0 = ap tree_of c.in-Binary.is in
     let o = c.in-Binary.operator in
@@ -105,7 +105,7 @@ returns-in_ok-pair-in-And-clause-fact t c =
 
 pub condition_form-requires-in-Some : goal.condition_form-requires-in-Some
 condition_form-requires-in-Some t c =
-    let limit = limits_in c.args.scalars.now c.args.message.now in
+    let limit = limits c.args.message.now in
     let fields = formed_all c.args.fields.now in
     let x0 = ap tree_of c.in-Binary.is in
     let o = c.in-Binary.operator in
@@ -115,7 +115,7 @@ condition_form-requires-in-Some t c =
 
 pub returns-in-Some : goal.returns-in-Some
 returns-in-Some t c =
-    let limit = limits_in c.args.scalars.now c.args.message.now in
+    let limit = limits c.args.message.now in
     let fields = formed_all c.args.fields.now in
     let x0 = ap tree_of c.in-Binary.is in
     let o = c.in-Binary.operator in
@@ -129,7 +129,7 @@ returns-in-Some t c =
 
 pub condition_form-requires-in-Some-spelled_in : goal.condition_form-requires-in-Some-spelled_in
 condition_form-requires-in-Some-spelled_in t c =
-    let limit = limits_in c.args.scalars.now c.args.message.now in
+    let limit = limits c.args.message.now in
     let fields = formed_all c.args.fields.now in
     let x0 = ap tree_of c.in-Binary.is in
     let o = c.in-Binary.operator in
@@ -140,7 +140,7 @@ condition_form-requires-in-Some-spelled_in t c =
 
 pub returns-in-Some-spelled_in : goal.returns-in-Some-spelled_in
 returns-in-Some-spelled_in t c =
-    let limit = limits_in c.args.scalars.now c.args.message.now in
+    let limit = limits c.args.message.now in
     let fields = formed_all c.args.fields.now in
     let x0 = ap tree_of c.in-Binary.is in
     let o = c.in-Binary.operator in
@@ -155,7 +155,7 @@ returns-in-Some-spelled_in t c =
 
 pub compared-requires : goal.compared-requires
 compared-requires t c =
-    let limit = limits_in c.args.scalars.now c.args.message.now in
+    let limit = limits c.args.message.now in
     let fields = formed_all c.args.fields.now in
     let x0 = ap tree_of c.in-Binary.is in
     let o = c.in-Binary.operator in
@@ -169,7 +169,7 @@ compared-requires t c =
 
 pub returns-in_default-spelled_in-2 : goal.returns-in_default-spelled_in-2
 returns-in_default-spelled_in-2 t c =
-    let limit = limits_in c.args.scalars.now c.args.message.now in
+    let limit = limits c.args.message.now in
     let fields = formed_all c.args.fields.now in
     let x0 = ap tree_of c.in-Binary.is in
     let o = c.in-Binary.operator in
@@ -185,7 +185,7 @@ returns-in_default-spelled_in-2 t c =
 
 pub leaf_fact-requires : goal.leaf_fact-requires
 leaf_fact-requires t c =
-    let limit = limits_in c.args.scalars.now c.args.message.now in
+    let limit = limits c.args.message.now in
     let fields = formed_all c.args.fields.now in
     record { leaf = Facts.leaf_code limit c.args.expr.now c.requires.condition c.in_default.not-Not c.in_default.not-Binary }
 
@@ -199,7 +199,7 @@ returns-in_err-leaf_fact-in_default t c =
 
 pub returns-in_ok-leaf_fact-in_default : goal.returns-in_ok-leaf_fact-in_default
 returns-in_ok-leaf_fact-in_default t c =
-    let limit = limits_in c.args.scalars.now c.args.message.now in
+    let limit = limits c.args.message.now in
     let fields = formed_all c.args.fields.now in
     let k = Facts.leaf_code limit c.args.expr.now c.requires.condition c.in_default.not-Not c.in_default.not-Binary in
     record { fact = Facts.leaf_works limit fields (tree_of c.args.expr.now) c.args.wanted c.args.work.now _ k c.requires.room (c.in_ok-leaf_fact-in_default.ensures c.args.work.now.next); limit = tt }

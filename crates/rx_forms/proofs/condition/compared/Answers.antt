@@ -1,6 +1,6 @@
 use Rattle.std.proofs.lemmas.Result.{err_from_is_err_and, IfOk-from_err}
 use Rattle.rx_types.specs.Tree.{tree_of}
-use Rattle.rx_forms.specs.Code.{formed_all, limits_in}
+use Rattle.rx_forms.specs.Code.{formed_all, limits}
 use Rattle.rx_forms.proofs.Facts
 use Rattle.rx_forms.proofs.Numbers
 use Rattle.rx_forms.proofs.Reaching.{fails_too}
@@ -16,7 +16,7 @@ pub number_form-requires-2-clause-narrow : goal.number_form-requires-2-clause-na
 number_form-requires-2-clause-narrow c = c.requires.right.1
 
 pub number_form-requires-2-clause-room : goal.number_form-requires-2-clause-room
-number_form-requires-2-clause-room c = Numbers.room_after (limits_in c.args.scalars.now c.args.message.now) (formed_all c.args.fields.now) (tree_of c.args.left.now) _ _ c.in_ok-left.ensures.sum.goes
+number_form-requires-2-clause-room c = Numbers.room_after (limits c.args.message.now) (formed_all c.args.fields.now) (tree_of c.args.left.now) _ _ c.in_ok-left.ensures.sum.goes
 
 pub returns-in_err-left-clause-fact : goal.returns-in_err-left-clause-fact
 returns-in_err-left-clause-fact c = IfOk-from_err c.from_residual.result _ c.from_residual.ensures.0
@@ -24,7 +24,7 @@ returns-in_err-left-clause-fact c = IfOk-from_err c.from_residual.result _ c.fro
 pub returns-in_err-left-clause-limit : goal.returns-in_err-left-clause-limit
 returns-in_err-left-clause-limit c =
     let p = err_from_is_err_and c.from_residual.result c.from_residual.ensures.1 in
-    rw (p.1, p.2) (λ e. Facts.comparison_left_fails (limits_in c.args.scalars.now c.args.message.now) (formed_all c.args.fields.now) (tree_of c.args.left.now) (tree_of c.args.right.now) c.args.work.now.next (c.in_err-left.ensures.limit e))
+    rw (p.1, p.2) (λ e. Facts.comparison_left_fails (limits c.args.message.now) (formed_all c.args.fields.now) (tree_of c.args.left.now) (tree_of c.args.right.now) c.args.work.now.next (c.in_err-left.ensures.limit e))
 
 pub returns-in_err-right-clause-fact : goal.returns-in_err-right-clause-fact
 returns-in_err-right-clause-fact c = IfOk-from_err c.from_residual-in_err-right.result _ c.from_residual-in_err-right.ensures.0
@@ -32,12 +32,12 @@ returns-in_err-right-clause-fact c = IfOk-from_err c.from_residual-in_err-right.
 pub returns-in_err-right-clause-limit : goal.returns-in_err-right-clause-limit
 returns-in_err-right-clause-limit c =
     let p = err_from_is_err_and c.from_residual-in_err-right.result c.from_residual-in_err-right.ensures.1 in
-    rw (p.1, p.2) (λ e. Facts.comparison_right_fails (limits_in c.args.scalars.now c.args.message.now) (formed_all c.args.fields.now) (tree_of c.args.left.now) (tree_of c.args.right.now) _ _ c.in_ok-left.ensures.sum.goes (c.in_err-right.ensures.limit e))
+    rw (p.1, p.2) (λ e. Facts.comparison_right_fails (limits c.args.message.now) (formed_all c.args.fields.now) (tree_of c.args.left.now) (tree_of c.args.right.now) _ _ c.in_ok-left.ensures.sum.goes (c.in_err-right.ensures.limit e))
 
 pub returns-clause-fact : goal.returns-clause-fact
 returns-clause-fact c =
-    Facts.comparison_ok (limits_in c.args.scalars.now c.args.message.now) (formed_all c.args.fields.now) c.args.operator c.args.wanted (tree_of c.args.left.now) (tree_of c.args.right.now) _ _ _ c.in_ok-left.left c.in_ok-right.right c.comparison.result c.in_ok-left.ensures.sum c.in_ok-right.ensures.sum c.comparison.ensures.value c.comparison.ensures.kept
+    Facts.comparison_ok (limits c.args.message.now) (formed_all c.args.fields.now) c.args.operator c.args.wanted (tree_of c.args.left.now) (tree_of c.args.right.now) _ _ _ c.in_ok-left.left c.in_ok-right.right c.comparison.result c.in_ok-left.ensures.sum c.in_ok-right.ensures.sum c.comparison.ensures.value c.comparison.ensures.kept
 
 pub returns-clause-limit : goal.returns-clause-limit
 returns-clause-limit c =
-    fails_too c.comparison.result _ _ (λ h. Facts.comparison_fails (limits_in c.args.scalars.now c.args.message.now) (formed_all c.args.fields.now) (tree_of c.args.left.now) (tree_of c.args.right.now) _ _ _ c.in_ok-left.left c.in_ok-right.right c.in_ok-left.ensures.sum c.in_ok-right.ensures.sum h) c.comparison.ensures.limit
+    fails_too c.comparison.result _ _ (λ h. Facts.comparison_fails (limits c.args.message.now) (formed_all c.args.fields.now) (tree_of c.args.left.now) (tree_of c.args.right.now) _ _ _ c.in_ok-left.left c.in_ok-right.right c.in_ok-left.ensures.sum c.in_ok-right.ensures.sum h) c.comparison.ensures.limit

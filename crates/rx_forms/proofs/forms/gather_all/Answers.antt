@@ -1,9 +1,7 @@
 use Rattle.std.proofs.Common.{sym, ap, ◌∙◌, false}
 use Rattle.std.proofs.lemmas.Result.{err_from_is_err_and, IfOk-from_err, on_ok_weaker}
-use Rattle.rx_graph.specs.Graph.{graph_of}
 use Rattle.rx_forms.specs.Gathered.{into_fields}
 use Rattle.rx_forms.specs.Steps.{links_on}
-use Rattle.rx_forms.specs.Code.{domains_in}
 use Rattle.rx_forms.specs.Fronts.{Front, front_of, after_links, links_within, after_ends, ends_within, ends_of}
 use Rattle.rx_forms.proofs.Kept.{off_right, on_both}
 use Rattle.rx_forms.proofs.Telling
@@ -11,12 +9,12 @@ use Rattle.rx_forms.proofs.Reaching.{fails_too}
 use Rattle.rx_forms.proofs.forms.gather_all.Goals as goal
 
 pub gather_path-requires : goal.gather_path-requires
-gather_path-requires c = record { formable = c.requires.formable; narrow = c.requires.narrow; few = c.requires.few; room = c.requires.room }
+gather_path-requires c = record { few = c.requires.few; room = c.requires.room }
 
 pub returns-in_err-gather_path : goal.returns-in_err-gather_path
 returns-in_err-gather_path c =
-    let domains = domains_in c.args.scalars.now in
-    let m = graph_of c.args.message.now in
+    let domains = c.args.message.now.domains in
+    let m = c.args.message.now.graph in
     let path = c.args.path.now in
     let front = front_of c.args.builder.now in
     let mid = after_links domains m front (into_fields (links_on domains m path)) in
@@ -32,13 +30,12 @@ returns-in_err-gather_path c =
     }
 
 pub gather_ends-requires : goal.gather_ends-requires
-gather_ends-requires c = record { formable = c.requires.formable; narrow = c.requires.narrow; room = c.in_ok-gather_path.ensures.room }
+gather_ends-requires c = record { room = c.in_ok-gather_path.ensures.room }
 
 pub returns : goal.returns
 returns c =
-    let domains = domains_in c.args.scalars.now in
-    let m = graph_of c.args.message.now in
-    let path = c.args.path.now in
+    let domains = c.args.message.now.domains in
+    let m = c.args.message.now.graph in
     let out = links_on domains m c.args.out.now in
     let g = c.in_ok-gather_path.ensures in
     let r = c.gather_ends.result in

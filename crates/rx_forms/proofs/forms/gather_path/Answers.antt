@@ -1,9 +1,7 @@
 use Rattle.std.proofs.Common.{◌≡◌, sym, ap, ◌∙◌, subst, ◌≤◌, true, false}
 use Rattle.std.proofs.lemmas.Result.{err_from_is_err_and, IfOk-from_err, on_ok_weaker}
-use Rattle.rx_graph.specs.Graph.{graph_of}
 use Rattle.rx_forms.specs.Gathered.{into_fields}
 use Rattle.rx_forms.specs.Steps.{links_on}
-use Rattle.rx_forms.specs.Code.{domains_in}
 use Rattle.rx_forms.specs.Fronts.{Front, front_of, after_ends, ends_within, ends_of}
 use Rattle.rx_forms.proofs.Kept.{off_left, off_right}
 use Rattle.rx_forms.proofs.Looping
@@ -11,7 +9,7 @@ use Rattle.rx_forms.proofs.Reaching.{both_ok, fails_too}
 use Rattle.rx_forms.proofs.forms.gather_path.Goals as goal
 
 pub gather_fields-requires : goal.gather_fields-requires
-gather_fields-requires c = record { formable = c.requires.formable; narrow = c.requires.narrow; few = c.requires.few; room = c.requires.room }
+gather_fields-requires c = record { few = c.requires.few; room = c.requires.room }
 
 pub returns-in_err-gather_fields : goal.returns-in_err-gather_fields
 returns-in_err-gather_fields c =
@@ -26,21 +24,19 @@ returns-in_err-gather_fields c =
 
 pub gather_ends-requires : goal.gather_ends-requires
 gather_ends-requires c =
-    let domains = domains_in c.args.scalars.now in
-    let m = graph_of c.args.message.now in
+    let domains = c.args.message.now.domains in
+    let m = c.args.message.now.graph in
     let path = c.args.path.now in
     let front = front_of c.args.builder.now in
     let g = c.in_ok-gather_fields.ensures in
     record {
-      formable = c.requires.formable;
-      narrow = c.requires.narrow;
       room = subst (λ (x : Front). x.division ≤ 190) (sym g.gone) (Looping.links_room domains m front (into_fields (links_on domains m path)) c.requires.room g.within);
     }
 
 pub returns : goal.returns
 returns c =
-    let domains = domains_in c.args.scalars.now in
-    let m = graph_of c.args.message.now in
+    let domains = c.args.message.now.domains in
+    let m = c.args.message.now.graph in
     let path = c.args.path.now in
     let front = front_of c.args.builder.now in
     let mid = front_of c.gather_fields.new.builder in

@@ -1,7 +1,5 @@
 use Rattle.std.proofs.Common.{◌≡◌, sym, ap, ◌∙◌, ℕ, ◌+◌, ◌≤◌, ◌<◌, arith, true, false}
 use Rattle.std.proofs.lemmas.Result.{err_from_is_err_and, IfOk-from_err}
-use Rattle.rx_graph.specs.Graph.{graph_of}
-use Rattle.rx_forms.specs.Code.{domains_in}
 use Rattle.rx_forms.specs.Fronts.{Front, forms_in, first_front, after_path, path_within}
 use Rattle.rx_forms.proofs.Telling
 use Rattle.rx_forms.proofs.forms.gathered.Goals as goal
@@ -19,16 +17,14 @@ pub gather_all-requires : goal.gather_all-requires
 gather_all-requires c =
     let e = c.start-builder.ensures in
     record {
-      formable = c.requires.formable;
-      narrow = c.requires.narrow;
       few = few_ends c.start-builder.result.scalar c.args.count _ (ap (λ (x : Front). x.scalar) e) c.requires.count c.requires.few;
       room = room_first c.start-builder.result.work.next c.args.count (ap (λ (x : Front). x.division) e) c.requires.few;
     }
 
 pub returns-in_err-gather_all : goal.returns-in_err-gather_all
 returns-in_err-gather_all c =
-    let domains = domains_in c.args.scalars.now in
-    let m = graph_of c.args.message.now in
+    let domains = c.args.message.now.domains in
+    let m = c.args.message.now.graph in
     let path = c.args.path.now in
     let out = c.args.out.now in
     let e = c.start-builder.ensures ∙ ap first_front c.requires.count in
@@ -41,8 +37,8 @@ returns-in_err-gather_all c =
 
 pub returns : goal.returns
 returns c =
-    let domains = domains_in c.args.scalars.now in
-    let m = graph_of c.args.message.now in
+    let domains = c.args.message.now.domains in
+    let m = c.args.message.now.graph in
     let path = c.args.path.now in
     let out = c.args.out.now in
     let e = c.start-builder.ensures ∙ ap first_front c.requires.count in

@@ -1,8 +1,7 @@
 use Rattle.std.proofs.Common.{◌≡◌, refl, sym, ap, ◌∙◌, subst, List, true, false, IfErr, OnOk}
 use Rattle.std.proofs.lemmas.Result.{on_ok_weaker}
-use Rattle.rx_graph.specs.Graph.{Arrow, graph_of, arrow_of}
+use Rattle.rx_graph.specs.Graph.{Arrow, arrow_of}
 use Rattle.rx_forms.specs.declared.fault.FormFault.TheVariants.{PathLimit}
-use Rattle.rx_forms.specs.Code.{domains_in}
 use Rattle.rx_forms.specs.Fronts.{front_of, after_ends, ends_within}
 use Rattle.rx_forms.proofs.Kept.{off_left, on_both}
 use Rattle.rx_forms.proofs.Looping
@@ -14,15 +13,15 @@ add_condition-requires c =
     let link = arrow_of c.args.link.now in
     let i = c.requires.link in
     record {
-      condition = (c.requires.formable i.0 link i.1).condition;
-      narrow = (c.requires.narrow i.0 link i.1).condition;
+      condition = (c.links_have_forms.ensures.formable i.0 link i.1).condition;
+      narrow = (c.links_have_forms.ensures.narrow i.0 link i.1).condition;
       room = c.requires.room;
     }
 
 pub returns-then-is_asked : goal.returns-then-is_asked
 returns-then-is_asked c =
-    let domains = domains_in c.args.scalars.now in
-    let m = graph_of c.args.message.now in
+    let domains = c.args.message.now.domains in
+    let m = c.args.message.now.graph in
     let front = front_of c.args.builder.now in
     let link = arrow_of c.args.link.now in
     let r = c.add_condition.result in
@@ -36,8 +35,8 @@ returns-then-is_asked c =
 
 pub returns-else-is_asked : goal.returns-else-is_asked
 returns-else-is_asked c =
-    let domains = domains_in c.args.scalars.now in
-    let m = graph_of c.args.message.now in
+    let domains = c.args.message.now.domains in
+    let m = c.args.message.now.graph in
     let front = front_of c.args.builder.now in
     let link = arrow_of c.args.link.now in
     let e = Looping.ends_none c.args.all link (sym c.is_asked.ensures ∙ c.if-is_asked.false) in

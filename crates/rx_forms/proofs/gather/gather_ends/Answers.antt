@@ -1,9 +1,8 @@
 use Rattle.std.proofs.Common.{refl, sym, ap, ◌∙◌, subst, ℕ, ◌≤◌, List, [], ◌∷◌, get_or}
 use Rattle.std.proofs.lemmas.Result.{err_from_is_err_and, IfOk-from_err}
 use Rattle.std.proofs.lemmas.List.{drop_all}
-use Rattle.rx_graph.specs.Graph.{Arrow, graph_of}
+use Rattle.rx_graph.specs.Graph.{Arrow}
 use Rattle.rx_forms.specs.Steps.{links_on}
-use Rattle.rx_forms.specs.Code.{domains_in}
 use Rattle.rx_forms.specs.Fronts.{Front, front_of, after_ends, ends_within, ends_of}
 use Rattle.rx_forms.proofs.Looping
 use Rattle.rx_forms.proofs.gather.gather_ends.Goals as goal
@@ -13,22 +12,15 @@ loop-index-init c = record { gone = refl; within = refl; room = c.requires.room 
 
 pub gather_end_at-requires : goal.gather_end_at-requires
 gather_end_at-requires c =
-    let domains = domains_in c.args.scalars.now in
-    let m = graph_of c.args.message.now in
-    let path = c.args.path.now in
-    let k = c.loop-index.index-index in
-    let cur = front_of c.loop-index.builder in
     let inv = c.loop-index.invariant in
     record {
-      formable = c.requires.formable;
-      narrow = c.requires.narrow;
       room = inv.room;
     }
 
 pub returns-in_err-gather_end_at : goal.returns-in_err-gather_end_at
 returns-in_err-gather_end_at c =
-    let domains = domains_in c.args.scalars.now in
-    let m = graph_of c.args.message.now in
+    let domains = c.args.message.now.domains in
+    let m = c.args.message.now.graph in
     let path = c.args.path.now in
     let k = c.loop-index.index-index in
     let cur = front_of c.loop-index.builder in
@@ -42,8 +34,8 @@ returns-in_err-gather_end_at c =
 
 pub loop-index-preserved : goal.loop-index-preserved
 loop-index-preserved c =
-    let domains = domains_in c.args.scalars.now in
-    let m = graph_of c.args.message.now in
+    let domains = c.args.message.now.domains in
+    let m = c.args.message.now.graph in
     let path = c.args.path.now in
     let k = c.loop-index.index-index in
     let cur = front_of c.loop-index.builder in
@@ -59,8 +51,8 @@ loop-index-preserved c =
 
 pub returns : goal.returns
 returns c =
-    let domains = domains_in c.args.scalars.now in
-    let m = graph_of c.args.message.now in
+    let domains = c.args.message.now.domains in
+    let m = c.args.message.now.graph in
     let path = c.args.path.now in
     let k = c.loop-index.index-index in
     let cur = front_of c.loop-index.builder in

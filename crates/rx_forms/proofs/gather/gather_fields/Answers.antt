@@ -1,10 +1,8 @@
 use Rattle.std.proofs.Common.{◌≡◌, refl, sym, ap, ◌∙◌, subst, ℕ, ◌+◌, ◌≤◌, arith, List, [], ◌∷◌, get_or, drop}
 use Rattle.std.proofs.lemmas.Result.{err_from_is_err_and, IfOk-from_err}
 use Rattle.std.proofs.lemmas.List.{drop_all}
-use Rattle.rx_graph.specs.Graph.{graph_of}
 use Rattle.rx_forms.specs.Gathered.{into_fields}
 use Rattle.rx_forms.specs.Steps.{links_on}
-use Rattle.rx_forms.specs.Code.{domains_in}
 use Rattle.rx_forms.specs.Fronts.{Front, front_of, after_links, links_within}
 use Rattle.rx_forms.proofs.Looping
 use Rattle.rx_forms.proofs.gather.gather_fields.Goals as goal
@@ -17,23 +15,21 @@ loop-index-init c = record { gone = refl; within = refl; room = c.requires.room 
 
 pub gather_index-requires : goal.gather_index-requires
 gather_index-requires c =
-    let domains = domains_in c.args.scalars.now in
-    let m = graph_of c.args.message.now in
+    let domains = c.args.message.now.domains in
+    let m = c.args.message.now.graph in
     let path = c.args.path.now in
     let k = c.loop-index.index-index in
     let cur = front_of c.loop-index.builder in
     let inv = c.loop-index.invariant in
     record {
-      formable = c.requires.formable;
-      narrow = c.requires.narrow;
       few = few_left c.loop-index.builder.scalar _ _ _ _ (sym (Looping.scalars_after domains m cur (into_fields (links_on domains m (drop k path))))) (ap (λ (x : Front). x.scalar) inv.gone ∙ Looping.scalars_after domains m (front_of c.args.builder.now) (into_fields (links_on domains m path))) c.requires.few;
       room = inv.room;
     }
 
 pub returns-in_err-gather_index : goal.returns-in_err-gather_index
 returns-in_err-gather_index c =
-    let domains = domains_in c.args.scalars.now in
-    let m = graph_of c.args.message.now in
+    let domains = c.args.message.now.domains in
+    let m = c.args.message.now.graph in
     let path = c.args.path.now in
     let k = c.loop-index.index-index in
     let cur = front_of c.loop-index.builder in
@@ -47,8 +43,8 @@ returns-in_err-gather_index c =
 
 pub loop-index-preserved : goal.loop-index-preserved
 loop-index-preserved c =
-    let domains = domains_in c.args.scalars.now in
-    let m = graph_of c.args.message.now in
+    let domains = c.args.message.now.domains in
+    let m = c.args.message.now.graph in
     let path = c.args.path.now in
     let k = c.loop-index.index-index in
     let cur = front_of c.loop-index.builder in
@@ -64,8 +60,8 @@ loop-index-preserved c =
 
 pub returns : goal.returns
 returns c =
-    let domains = domains_in c.args.scalars.now in
-    let m = graph_of c.args.message.now in
+    let domains = c.args.message.now.domains in
+    let m = c.args.message.now.graph in
     let path = c.args.path.now in
     let k = c.loop-index.index-index in
     let cur = front_of c.loop-index.builder in

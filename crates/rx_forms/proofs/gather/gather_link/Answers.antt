@@ -1,8 +1,7 @@
 use Rattle.std.proofs.Common.{◌≡◌, refl, sym, ap, subst, ℕ, ◌≤◌, ◌<◌, ◌^◌, arith, List, true, false, IfErr, OnOk}
 use Rattle.std.proofs.lemmas.Result.{on_ok_weaker}
-use Rattle.rx_graph.specs.Graph.{Arrow, graph_of, arrow_of}
+use Rattle.rx_graph.specs.Graph.{Arrow, arrow_of}
 use Rattle.rx_forms.specs.declared.fault.FormFault.TheVariants.{PathLimit}
-use Rattle.rx_forms.specs.Code.{domains_in}
 use Rattle.rx_forms.specs.Fronts.{front_of, after_links, links_within}
 use Rattle.rx_forms.proofs.Kept.{off_left, on_both}
 use Rattle.rx_forms.proofs.Looping
@@ -17,8 +16,8 @@ add_link-requires c =
     let link = arrow_of c.args.link.now in
     let i = c.requires.link in
     record {
-      formable = c.requires.formable i.0 link i.1;
-      narrow = c.requires.narrow i.0 link i.1;
+      formable = c.links_have_forms.ensures.formable i.0 link i.1;
+      narrow = c.links_have_forms.ensures.narrow i.0 link i.1;
       target = c.in-At.is;
       small = small c.args.builder.now.scalar c.requires.few;
       room = c.requires.room;
@@ -26,8 +25,8 @@ add_link-requires c =
 
 pub returns-in-At : goal.returns-in-At
 returns-in-At c =
-    let domains = domains_in c.args.scalars.now in
-    let m = graph_of c.args.message.now in
+    let domains = c.args.message.now.domains in
+    let m = c.args.message.now.graph in
     let front = front_of c.args.builder.now in
     let link = arrow_of c.args.link.now in
     let r = c.add_link.result in
@@ -41,8 +40,8 @@ returns-in-At c =
 
 pub returns-in_default : goal.returns-in_default
 returns-in_default c =
-    let domains = domains_in c.args.scalars.now in
-    let m = graph_of c.args.message.now in
+    let domains = c.args.message.now.domains in
+    let m = c.args.message.now.graph in
     let front = front_of c.args.builder.now in
     let link = arrow_of c.args.link.now in
     let e = sym (Looping.fields_none link (Looping.is_no_field link c.in_default.not-At)) in

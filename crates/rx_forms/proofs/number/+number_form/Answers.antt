@@ -17,14 +17,14 @@ use Rattle.rx_forms.specs.Divisions.{division_rows}
 use Rattle.rx_forms.specs.Limits.{has_words, all_kept, divided}
 use Rattle.rx_forms.specs.Worked.{divided_by}
 use Rattle.rx_forms.specs.Normal.{IsNumeric}
-use Rattle.rx_forms.specs.Code.{formed_all, limits_in}
+use Rattle.rx_forms.specs.Code.{formed_all, limits}
 use Rattle.rx_forms.proofs.Numbers
 use Rattle.rx_forms.proofs.Reaching.{fails_too}
 use Rattle.rx_forms.proofs.number.+number_form.Goals as goal
 
 pub number_form-requires : goal.number_form-requires
 number_form-requires t c =
-    let limit = limits_in c.args.scalars.now c.args.message.now in
+    let limit = limits c.args.message.now in
     let fields = formed_all c.args.fields.now in
     let x = ap tree_of c.in-Neg.is ∙ ap (λ (y : Expr). Neg (tree_of y)) (sym c.deref.ensures) in
     (search (rules, the_lemmas), (subst IsNumeric x c.requires.numeric, ((subst (λ (y : Tree). IsNarrow limit y) x c.requires.narrow).1, c.requires.room)))
@@ -35,7 +35,7 @@ returns-in_err-form-in-Neg-clause-sum t c =
 
 pub returns-in_err-form-in-Neg-clause-limit : goal.returns-in_err-form-in-Neg-clause-limit
 returns-in_err-form-in-Neg-clause-limit t c =
-    let limit = limits_in c.args.scalars.now c.args.message.now in
+    let limit = limits c.args.message.now in
     let fields = formed_all c.args.fields.now in
     let x = ap tree_of c.in-Neg.is ∙ ap (λ (y : Expr). Neg (tree_of y)) (sym c.deref.ensures) in
     let p = err_from_is_err_and c.from_residual.result c.from_residual.ensures.1 in
@@ -43,21 +43,21 @@ returns-in_err-form-in-Neg-clause-limit t c =
 
 pub returns-in_ok-form-in-Neg-clause-sum : goal.returns-in_ok-form-in-Neg-clause-sum
 returns-in_ok-form-in-Neg-clause-sum t c =
-    let limit = limits_in c.args.scalars.now c.args.message.now in
+    let limit = limits c.args.message.now in
     let fields = formed_all c.args.fields.now in
     let x = ap tree_of c.in-Neg.is ∙ ap (λ (y : Expr). Neg (tree_of y)) (sym c.deref.ensures) in
     Numbers.neg_ok limit fields _ _ _ _ c.in_ok-form-in-Neg.form c.scaled.result x c.in_ok-form-in-Neg.ensures.sum c.scaled.ensures.value c.scaled.ensures.words
 
 pub returns-in_ok-form-in-Neg-clause-limit : goal.returns-in_ok-form-in-Neg-clause-limit
 returns-in_ok-form-in-Neg-clause-limit t c =
-    let limit = limits_in c.args.scalars.now c.args.message.now in
+    let limit = limits c.args.message.now in
     let fields = formed_all c.args.fields.now in
     let x = ap tree_of c.in-Neg.is ∙ ap (λ (y : Expr). Neg (tree_of y)) (sym c.deref.ensures) in
     fails_too c.scaled.result _ _ (λ h. Numbers.neg_fails limit fields _ _ _ _ c.in_ok-form-in-Neg.form x c.in_ok-form-in-Neg.ensures.sum h) c.scaled.ensures.limit
 
 pub number_form-requires-then-is_static : goal.number_form-requires-then-is_static
 number_form-requires-then-is_static t c =
-    let limit = limits_in c.args.scalars.now c.args.message.now in
+    let limit = limits c.args.message.now in
     let fields = formed_all c.args.fields.now in
     let x0 = ap tree_of c.in-Binary.is ∙ ap (λ (o : Operator). Binary o (tree_of c.in-Binary.left.value) (tree_of c.in-Binary.right.value)) c.in-Mul.is in
     let x = x0 ∙ Numbers.same_parts op.Mul _ _ _ _ refl c.deref-then-is_static.ensures in
@@ -65,7 +65,7 @@ number_form-requires-then-is_static t c =
 
 pub number_form-requires-else-is_static : goal.number_form-requires-else-is_static
 number_form-requires-else-is_static t c =
-    let limit = limits_in c.args.scalars.now c.args.message.now in
+    let limit = limits c.args.message.now in
     let fields = formed_all c.args.fields.now in
     let x0 = ap tree_of c.in-Binary.is ∙ ap (λ (o : Operator). Binary o (tree_of c.in-Binary.left.value) (tree_of c.in-Binary.right.value)) c.in-Mul.is in
     let x = x0 ∙ Numbers.same_parts op.Mul _ _ _ _ c.deref-else-is_static.ensures refl in
@@ -73,7 +73,7 @@ number_form-requires-else-is_static t c =
 
 pub static_number-requires : goal.static_number-requires
 static_number-requires t c =
-    let limit = limits_in c.args.scalars.now c.args.message.now in
+    let limit = limits c.args.message.now in
     let fields = formed_all c.args.fields.now in
     let x0 = ap tree_of c.in-Binary.is ∙ ap (λ (o : Operator). Binary o (tree_of c.in-Binary.left.value) (tree_of c.in-Binary.right.value)) c.in-Mul.is in
     let x = x0 ∙ Numbers.same_parts op.Mul _ _ _ _ c.deref-then-is_static-2.ensures refl in
@@ -81,7 +81,7 @@ static_number-requires t c =
 
 pub static_number-requires-else-is_static : goal.static_number-requires-else-is_static
 static_number-requires-else-is_static t c =
-    let limit = limits_in c.args.scalars.now c.args.message.now in
+    let limit = limits c.args.message.now in
     let fields = formed_all c.args.fields.now in
     let x0 = ap tree_of c.in-Binary.is ∙ ap (λ (o : Operator). Binary o (tree_of c.in-Binary.left.value) (tree_of c.in-Binary.right.value)) c.in-Mul.is in
     let x = x0 ∙ Numbers.same_parts op.Mul _ _ _ _ refl c.deref-else-is_static-2.ensures in
@@ -97,7 +97,7 @@ returns-in_err-form-in-Mul-2-clause-sum t c =
 
 pub returns-in_err-form-in-Mul-clause-limit : goal.returns-in_err-form-in-Mul-clause-limit
 returns-in_err-form-in-Mul-clause-limit t c =
-    let limit = limits_in c.args.scalars.now c.args.message.now in
+    let limit = limits c.args.message.now in
     let fields = formed_all c.args.fields.now in
     let x0 = ap tree_of c.in-Binary.is ∙ ap (λ (o : Operator). Binary o (tree_of c.in-Binary.left.value) (tree_of c.in-Binary.right.value)) c.in-Mul.is in
     let x = x0 ∙ Numbers.same_parts op.Mul _ _ _ _ c.deref-in-Mul.ensures c.deref-then-is_static.ensures in
@@ -107,7 +107,7 @@ returns-in_err-form-in-Mul-clause-limit t c =
 
 pub returns-in_err-form-in-Mul-2-clause-limit : goal.returns-in_err-form-in-Mul-2-clause-limit
 returns-in_err-form-in-Mul-2-clause-limit t c =
-    let limit = limits_in c.args.scalars.now c.args.message.now in
+    let limit = limits c.args.message.now in
     let fields = formed_all c.args.fields.now in
     let x0 = ap tree_of c.in-Binary.is ∙ ap (λ (o : Operator). Binary o (tree_of c.in-Binary.left.value) (tree_of c.in-Binary.right.value)) c.in-Mul.is in
     let x = x0 ∙ Numbers.same_parts op.Mul _ _ _ _ c.deref-else-is_static.ensures refl in
@@ -117,7 +117,7 @@ returns-in_err-form-in-Mul-2-clause-limit t c =
 
 pub returns-in_ok-form-in-Mul-clause-sum : goal.returns-in_ok-form-in-Mul-clause-sum
 returns-in_ok-form-in-Mul-clause-sum t c =
-    let limit = limits_in c.args.scalars.now c.args.message.now in
+    let limit = limits c.args.message.now in
     let fields = formed_all c.args.fields.now in
     let x0 = ap tree_of c.in-Binary.is ∙ ap (λ (o : Operator). Binary o (tree_of c.in-Binary.left.value) (tree_of c.in-Binary.right.value)) c.in-Mul.is in
     let x = x0 ∙ Numbers.same_parts op.Mul _ _ _ _ c.deref-then-is_static-2.ensures c.deref-then-is_static.ensures in
@@ -130,7 +130,7 @@ returns-in_ok-form-in-Mul-clause-sum t c =
 
 pub returns-in_ok-form-in-Mul-clause-limit : goal.returns-in_ok-form-in-Mul-clause-limit
 returns-in_ok-form-in-Mul-clause-limit t c =
-    let limit = limits_in c.args.scalars.now c.args.message.now in
+    let limit = limits c.args.message.now in
     let fields = formed_all c.args.fields.now in
     let x0 = ap tree_of c.in-Binary.is ∙ ap (λ (o : Operator). Binary o (tree_of c.in-Binary.left.value) (tree_of c.in-Binary.right.value)) c.in-Mul.is in
     let x = x0 ∙ Numbers.same_parts op.Mul _ _ _ _ c.deref-then-is_static-2.ensures c.deref-then-is_static.ensures in
@@ -143,7 +143,7 @@ returns-in_ok-form-in-Mul-clause-limit t c =
 
 pub returns-in_ok-form-in-Mul-2-clause-sum : goal.returns-in_ok-form-in-Mul-2-clause-sum
 returns-in_ok-form-in-Mul-2-clause-sum t c =
-    let limit = limits_in c.args.scalars.now c.args.message.now in
+    let limit = limits c.args.message.now in
     let fields = formed_all c.args.fields.now in
     let x0 = ap tree_of c.in-Binary.is ∙ ap (λ (o : Operator). Binary o (tree_of c.in-Binary.left.value) (tree_of c.in-Binary.right.value)) c.in-Mul.is in
     let x = x0 ∙ Numbers.same_parts op.Mul _ _ _ _ c.deref-else-is_static.ensures c.deref-else-is_static-2.ensures in
@@ -156,7 +156,7 @@ returns-in_ok-form-in-Mul-2-clause-sum t c =
 
 pub returns-in_ok-form-in-Mul-2-clause-limit : goal.returns-in_ok-form-in-Mul-2-clause-limit
 returns-in_ok-form-in-Mul-2-clause-limit t c =
-    let limit = limits_in c.args.scalars.now c.args.message.now in
+    let limit = limits c.args.message.now in
     let fields = formed_all c.args.fields.now in
     let x0 = ap tree_of c.in-Binary.is ∙ ap (λ (o : Operator). Binary o (tree_of c.in-Binary.left.value) (tree_of c.in-Binary.right.value)) c.in-Mul.is in
     let x = x0 ∙ Numbers.same_parts op.Mul _ _ _ _ c.deref-else-is_static.ensures c.deref-else-is_static-2.ensures in
@@ -169,7 +169,7 @@ returns-in_ok-form-in-Mul-2-clause-limit t c =
 
 pub number_form-requires-in_default-operator : goal.number_form-requires-in_default-operator
 number_form-requires-in_default-operator t c =
-    let limit = limits_in c.args.scalars.now c.args.message.now in
+    let limit = limits c.args.message.now in
     let fields = formed_all c.args.fields.now in
     let x0 = ap tree_of c.in-Binary.is in
     let o = c.in-Binary.operator in
@@ -180,7 +180,7 @@ number_form-requires-in_default-operator t c =
 
 pub number_form-requires-in_default-operator-2 : goal.number_form-requires-in_default-operator-2
 number_form-requires-in_default-operator-2 t c =
-    let limit = limits_in c.args.scalars.now c.args.message.now in
+    let limit = limits c.args.message.now in
     let fields = formed_all c.args.fields.now in
     let x0 = ap tree_of c.in-Binary.is in
     let o = c.in-Binary.operator in
@@ -191,7 +191,7 @@ number_form-requires-in_default-operator-2 t c =
 
 pub returns-in_err-left-in_default-operator : goal.returns-in_err-left-in_default-operator
 returns-in_err-left-in_default-operator t c =
-    let limit = limits_in c.args.scalars.now c.args.message.now in
+    let limit = limits c.args.message.now in
     let fields = formed_all c.args.fields.now in
     let x0 = ap tree_of c.in-Binary.is in
     let o = c.in-Binary.operator in
@@ -206,7 +206,7 @@ returns-in_err-left-in_default-operator t c =
 
 pub returns-in_err-right-in_default-operator : goal.returns-in_err-right-in_default-operator
 returns-in_err-right-in_default-operator t c =
-    let limit = limits_in c.args.scalars.now c.args.message.now in
+    let limit = limits c.args.message.now in
     let fields = formed_all c.args.fields.now in
     let x0 = ap tree_of c.in-Binary.is in
     let o = c.in-Binary.operator in
@@ -221,7 +221,7 @@ returns-in_err-right-in_default-operator t c =
 
 pub returns-in_ok-right-in_default-operator : goal.returns-in_ok-right-in_default-operator
 returns-in_ok-right-in_default-operator t c =
-    let limit = limits_in c.args.scalars.now c.args.message.now in
+    let limit = limits c.args.message.now in
     let fields = formed_all c.args.fields.now in
     let x0 = ap tree_of c.in-Binary.is in
     let o = c.in-Binary.operator in
@@ -237,7 +237,7 @@ returns-in_ok-right-in_default-operator t c =
 
 pub number_form-requires-in-Div : goal.number_form-requires-in-Div
 number_form-requires-in-Div t c =
-    let limit = limits_in c.args.scalars.now c.args.message.now in
+    let limit = limits c.args.message.now in
     let fields = formed_all c.args.fields.now in
     let x0 = ap tree_of c.in-Binary.is in
     let o = c.in-Binary.operator in
@@ -251,7 +251,7 @@ returns-in_err-form-in-Div-clause-sum t c =
 
 pub returns-in_err-form-in-Div-clause-limit : goal.returns-in_err-form-in-Div-clause-limit
 returns-in_err-form-in-Div-clause-limit t c =
-    let limit = limits_in c.args.scalars.now c.args.message.now in
+    let limit = limits c.args.message.now in
     let fields = formed_all c.args.fields.now in
     let x0 = ap tree_of c.in-Binary.is in
     let o = c.in-Binary.operator in
@@ -262,7 +262,7 @@ returns-in_err-form-in-Div-clause-limit t c =
 
 pub static_number-divisor-requires : goal.static_number-divisor-requires
 static_number-divisor-requires t c =
-    let limit = limits_in c.args.scalars.now c.args.message.now in
+    let limit = limits c.args.message.now in
     let fields = formed_all c.args.fields.now in
     let x0 = ap tree_of c.in-Binary.is in
     let o = c.in-Binary.operator in
@@ -272,7 +272,7 @@ static_number-divisor-requires t c =
 
 pub interval-interval-requires : goal.interval-interval-requires
 interval-interval-requires t c =
-    let limit = limits_in c.args.scalars.now c.args.message.now in
+    let limit = limits c.args.message.now in
     let fields = formed_all c.args.fields.now in
     let x0 = ap tree_of c.in-Binary.is in
     let o = c.in-Binary.operator in
@@ -282,7 +282,7 @@ interval-interval-requires t c =
 
 pub divided-requires-clause-positive : goal.divided-requires-clause-positive
 divided-requires-clause-positive t c =
-    let limit = limits_in c.args.scalars.now c.args.message.now in
+    let limit = limits c.args.message.now in
     let fields = formed_all c.args.fields.now in
     let x0 = ap tree_of c.in-Binary.is in
     let o = c.in-Binary.operator in
@@ -298,7 +298,7 @@ divided-requires-clause-short t c =
 
 pub returns-in_ok-form-in-Div-clause-sum : goal.returns-in_ok-form-in-Div-clause-sum
 returns-in_ok-form-in-Div-clause-sum t c =
-    let limit = limits_in c.args.scalars.now c.args.message.now in
+    let limit = limits c.args.message.now in
     let fields = formed_all c.args.fields.now in
     let x0 = ap tree_of c.in-Binary.is in
     let o = c.in-Binary.operator in
@@ -314,7 +314,7 @@ returns-in_ok-form-in-Div-clause-sum t c =
 
 pub returns-in_ok-form-in-Div-clause-limit : goal.returns-in_ok-form-in-Div-clause-limit
 returns-in_ok-form-in-Div-clause-limit t c =
-    let limit = limits_in c.args.scalars.now c.args.message.now in
+    let limit = limits c.args.message.now in
     let fields = formed_all c.args.fields.now in
     let x0 = ap tree_of c.in-Binary.is in
     let o = c.in-Binary.operator in
@@ -337,7 +337,7 @@ leaf_form-requires t c =
 
 pub returns-in_default : goal.returns-in_default
 returns-in_default t c =
-    let limit = limits_in c.args.scalars.now c.args.message.now in
+    let limit = limits c.args.message.now in
     let fields = formed_all c.args.fields.now in
     record {
       sum = IfOk-weaker c.leaf_form.result _ _ (λ f h. h limit) c.leaf_form.ensures.sum;

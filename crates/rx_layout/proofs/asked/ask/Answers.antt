@@ -1,6 +1,4 @@
 use Rattle.std.proofs.Common.{◌≡◌, sym, ap, ◌∙◌, subst, arith}
-use Rattle.rx_graph.specs.Graph.{graph_of}
-use Rattle.rx_forms.specs.Code.{domains_in}
 use Rattle.rx_forms.specs.Fronts.{Front, front_of}
 use Rattle.rx_layout.specs.Goals.{IsGoal}
 use Rattle.rx_layout.specs.Listed.{goal_of, goal_on}
@@ -14,12 +12,12 @@ use Rattle.rx_layout.proofs.Gathered.{if_ok}
 use Rattle.rx_layout.proofs.asked.ask.Goals as goal
 
 pub ask_both-requires : goal.ask_both-requires
-ask_both-requires c = record { formable = c.requires.formable; narrow = c.requires.narrow; room = c.requires.room }
+ask_both-requires c = record { room = c.requires.room }
 
 pub returns-in-Links : goal.returns-in-Links
 returns-in-Links c =
-    let domains = domains_in c.args.scalars.now in
-    let m = graph_of c.args.message.now in
+    let domains = c.args.message.now.domains in
+    let m = c.args.message.now.graph in
     let front = front_of c.args.builder.now in
     let asks : Goal → Front = λ g. behind (asked_by domains m g front.fields front.division) front in
     record {
@@ -30,8 +28,8 @@ returns-in-Links c =
 
 pub returns-in-Field : goal.returns-in-Field
 returns-in-Field c =
-    let domains = domains_in c.args.scalars.now in
-    let m = graph_of c.args.message.now in
+    let domains = c.args.message.now.domains in
+    let m = c.args.message.now.graph in
     let front = front_of c.args.builder.now in
     record {
       fits = λ n r h. h;
@@ -42,16 +40,14 @@ returns-in-Field c =
 pub ask_numbered-requires : goal.ask_numbered-requires
 ask_numbered-requires c =
     record {
-      formable = c.requires.formable;
-      narrow = c.requires.narrow;
       room = c.requires.room;
-      bytes = λ e. subst (λ (g : Goal). IsGoal (domains_in c.args.scalars.now) (graph_of c.args.message.now) g) (c.subject_of.ensures ∙ ap goal_on c.in-Link.is ∙ ap (λ check. goal_of check c.in-Link.node c.in-Link.number) e) c.requires.goal;
+      bytes = λ e. subst (λ (g : Goal). IsGoal c.args.message.now.domains c.args.message.now.graph g) (c.subject_of.ensures ∙ ap goal_on c.in-Link.is ∙ ap (λ check. goal_of check c.in-Link.node c.in-Link.number) e) c.requires.goal;
     }
 
 pub returns-in-Link : goal.returns-in-Link
 returns-in-Link c =
-    let domains = domains_in c.args.scalars.now in
-    let m = graph_of c.args.message.now in
+    let domains = c.args.message.now.domains in
+    let m = c.args.message.now.graph in
     let front = front_of c.args.builder.now in
     let asks : Asked → Front = λ a. behind a front in
     let told = link_asked domains m c.in-Link.check c.in-Link.node c.in-Link.number front.fields front.division ∙ ap (λ (g : Goal). asked_by domains m g front.fields front.division) (sym (c.subject_of.ensures ∙ ap goal_on c.in-Link.is)) in

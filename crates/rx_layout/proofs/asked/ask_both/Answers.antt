@@ -1,6 +1,5 @@
 use Rattle.std.proofs.Common.{refl, sym, ap, ◌∙◌, arith, [], ◌∷◌, Option}
-use Rattle.rx_graph.specs.Graph.{Arrow, graph_of}
-use Rattle.rx_forms.specs.Code.{domains_in}
+use Rattle.rx_graph.specs.Graph.{Arrow}
 use Rattle.rx_forms.specs.Fronts.{front_of}
 use Rattle.rx_layout.specs.Made.{behind}
 use Rattle.rx_layout.specs.QueryOf.{with_link, taken_asked, link_numbered}
@@ -9,12 +8,12 @@ use Rattle.rx_layout.proofs.Behind
 use Rattle.rx_layout.proofs.asked.ask_both.Goals as goal
 
 pub ask_other-requires : goal.ask_other-requires
-ask_other-requires c = record { link = c.in-Some.ensures.is; formable = c.requires.formable; narrow = c.requires.narrow; room = c.requires.room }
+ask_other-requires c = record { link = c.in-Some.ensures.is; room = c.requires.room }
 
 pub returns-in-Some : goal.returns-in-Some
 returns-in-Some c =
-    let domains = domains_in c.args.scalars.now in
-    let m = graph_of c.args.message.now in
+    let domains = c.args.message.now.domains in
+    let m = c.args.message.now.graph in
     let front = front_of c.args.builder.now in
     record {
       fits = c.ask_other.ensures.fits;
@@ -24,8 +23,8 @@ returns-in-Some c =
 
 pub returns-in-None : goal.returns-in-None
 returns-in-None c =
-    let domains = domains_in c.args.scalars.now in
-    let m = graph_of c.args.message.now in
+    let domains = c.args.message.now.domains in
+    let m = c.args.message.now.graph in
     let front = front_of c.args.builder.now in
     record {
       fits = λ n r h. h;

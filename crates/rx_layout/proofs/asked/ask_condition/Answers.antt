@@ -1,6 +1,5 @@
 use Rattle.std.proofs.Common.{◌≡◌, ◌≤◌, true}
-use Rattle.rx_graph.specs.Graph.{graph_of, arrow_of}
-use Rattle.rx_forms.specs.Code.{domains_in}
+use Rattle.rx_graph.specs.Graph.{arrow_of}
 use Rattle.rx_forms.specs.Fronts.{front_of, after_end}
 use Rattle.rx_forms.proofs.Reaching.{both_ok}
 use Rattle.rx_layout.proofs.Behind
@@ -13,8 +12,8 @@ add_condition-requires c = record { condition = c.requires.formable.condition; n
 
 pub returns : goal.returns
 returns c =
-    let domains = domains_in c.args.scalars.now in
-    let m = graph_of c.args.message.now in
+    let domains = c.args.message.now.domains in
+    let m = c.args.message.now.graph in
     let front = front_of c.args.builder.now in
     let new = front_of c.add_condition.new.builder in
     let link = arrow_of c.args.link.now in

@@ -1,6 +1,5 @@
 use Rattle.std.proofs.Common.{ℕ, ap, ◌∙◌, Option}
-use Rattle.rx_graph.specs.Graph.{graph_of, arrow_of}
-use Rattle.rx_forms.specs.Code.{domains_in}
+use Rattle.rx_graph.specs.Graph.{arrow_of}
 use Rattle.rx_forms.specs.Fronts.{front_of}
 use Rattle.rx_layout.specs.Made.{behind}
 use Rattle.rx_layout.specs.QueryOf.{cover_asked}
@@ -15,8 +14,8 @@ ask_cover-requires c = record { formable = c.requires.formable; narrow = c.requi
 
 pub returns-in-Some : goal.returns-in-Some
 returns-in-Some c =
-    let domains = domains_in c.args.scalars.now in
-    let m = graph_of c.args.message.now in
+    let domains = c.args.message.now.domains in
+    let m = c.args.message.now.graph in
     let link = arrow_of c.args.link.now in
     let front = front_of c.args.builder.now in
     record {
@@ -27,8 +26,8 @@ returns-in-Some c =
 
 pub returns-in-None : goal.returns-in-None
 returns-in-None c =
-    let domains = domains_in c.args.scalars.now in
-    let m = graph_of c.args.message.now in
+    let domains = c.args.message.now.domains in
+    let m = c.args.message.now.graph in
     let link = arrow_of c.args.link.now in
     let front = front_of c.args.builder.now in
     record {

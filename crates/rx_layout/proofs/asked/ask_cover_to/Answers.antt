@@ -1,7 +1,6 @@
 use Rattle.std.proofs.Common.{◌≡◌, sym, ap, ◌∙◌}
 use Rattle.rx_graph.specs.declared.message.Node.{Node}
-use Rattle.rx_graph.specs.Graph.{graph_of, arrow_of}
-use Rattle.rx_forms.specs.Code.{domains_in}
+use Rattle.rx_graph.specs.Graph.{arrow_of}
 use Rattle.rx_forms.specs.Fronts.{front_of}
 use Rattle.rx_layout.specs.Made.{behind}
 use Rattle.rx_layout.specs.QueryOf.{cover_to}
@@ -20,8 +19,8 @@ ask_null-requires c = record { formable = c.requires.formable; narrow = c.requir
 
 pub returns-in-Start : goal.returns-in-Start
 returns-in-Start c =
-    let domains = domains_in c.args.scalars.now in
-    let m = graph_of c.args.message.now in
+    let domains = c.args.message.now.domains in
+    let m = c.args.message.now.graph in
     let link = arrow_of c.args.link.now in
     let front = front_of c.args.builder.now in
     record {
@@ -32,8 +31,8 @@ returns-in-Start c =
 
 pub returns-in-At : goal.returns-in-At
 returns-in-At c =
-    let domains = domains_in c.args.scalars.now in
-    let m = graph_of c.args.message.now in
+    let domains = c.args.message.now.domains in
+    let m = c.args.message.now.graph in
     let link = arrow_of c.args.link.now in
     let front = front_of c.args.builder.now in
     record {
@@ -44,8 +43,8 @@ returns-in-At c =
 
 pub returns-in-Null : goal.returns-in-Null
 returns-in-Null c =
-    let domains = domains_in c.args.scalars.now in
-    let m = graph_of c.args.message.now in
+    let domains = c.args.message.now.domains in
+    let m = c.args.message.now.graph in
     let link = arrow_of c.args.link.now in
     let front = front_of c.args.builder.now in
     record {

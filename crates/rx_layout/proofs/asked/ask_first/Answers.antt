@@ -1,8 +1,7 @@
 use Rattle.std.proofs.Common.{◌≡◌, ℕ, ap, ◌∙◌, ◌≤◌, arith}
 use Rattle.std.proofs.lemmas.Result.{IfOk-from_err}
-use Rattle.rx_graph.specs.Graph.{graph_of, arrow_of}
+use Rattle.rx_graph.specs.Graph.{arrow_of}
 use Rattle.rx_forms.specs.Steps.{form_or, end_form}
-use Rattle.rx_forms.specs.Code.{domains_in}
 use Rattle.rx_forms.specs.Fronts.{Front, front_of}
 use Rattle.rx_forms.proofs.Reaching.{both_ok}
 use Rattle.rx_layout.specs.Made.{after_any}
@@ -29,8 +28,8 @@ target_first-requires c = record { formable = c.requires.formable; narrow = c.re
 
 pub returns : goal.returns
 returns c =
-    let domains = domains_in c.args.scalars.now in
-    let m = graph_of c.args.message.now in
+    let domains = c.args.message.now.domains in
+    let m = c.args.message.now.graph in
     let link = arrow_of c.args.link.now in
     let r = c.target_first.result in
     let h = c.in_ok-ask_condition.ensures.gone in

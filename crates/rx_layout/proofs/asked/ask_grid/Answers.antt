@@ -1,8 +1,7 @@
 use Rattle.std.proofs.Common.{◌≡◌, ℕ, sym, ap, ◌∙◌, subst, ◌≤◌, ◌+◌, arith}
 use Rattle.std.proofs.lemmas.Result.{IfOk-from_err}
-use Rattle.rx_graph.specs.Graph.{graph_of, arrow_of}
+use Rattle.rx_graph.specs.Graph.{arrow_of}
 use Rattle.rx_forms.specs.declared.linear.Form.{Form}
-use Rattle.rx_forms.specs.Code.{domains_in}
 use Rattle.rx_forms.specs.Fronts.{Front, front_of}
 use Rattle.rx_layout.specs.Made.{grid_units, units_behind}
 use Rattle.rx_layout.proofs.Gathered.{if_ok}
@@ -33,8 +32,8 @@ push_quotients-requires c = record { narrow = c.requires.narrow; room = subst (�
 
 pub returns : goal.returns
 returns c =
-    let domains = domains_in c.args.scalars.now in
-    let m = graph_of c.args.message.now in
+    let domains = c.args.message.now.domains in
+    let m = c.args.message.now.graph in
     let link = arrow_of c.args.link.now in
     let front = front_of c.args.builder.now in
     let t = c.in_ok-target.ensures in

@@ -1,6 +1,5 @@
 use Rattle.std.proofs.Common.{◌≡◌, sym, ap, ◌∙◌, ◌≤◌, arith}
-use Rattle.rx_graph.specs.Graph.{graph_of, arrow_of}
-use Rattle.rx_forms.specs.Code.{domains_in}
+use Rattle.rx_graph.specs.Graph.{arrow_of}
 use Rattle.rx_forms.specs.Fronts.{front_of}
 use Rattle.rx_layout.specs.Made.{behind, asked_link}
 use Rattle.rx_layout.specs.declared.checklist.LinkCheck.{LinkCheck}
@@ -28,8 +27,8 @@ ask_whole-requires c = record { formable = c.requires.formable; narrow = c.requi
 
 pub returns-in-Taken : goal.returns-in-Taken
 returns-in-Taken c =
-    let domains = domains_in c.args.scalars.now in
-    let m = graph_of c.args.message.now in
+    let domains = c.args.message.now.domains in
+    let m = c.args.message.now.graph in
     let link = arrow_of c.args.link.now in
     let front = front_of c.args.builder.now in
     record {
@@ -40,8 +39,8 @@ returns-in-Taken c =
 
 pub returns-in-Position : goal.returns-in-Position
 returns-in-Position c =
-    let domains = domains_in c.args.scalars.now in
-    let m = graph_of c.args.message.now in
+    let domains = c.args.message.now.domains in
+    let m = c.args.message.now.graph in
     let link = arrow_of c.args.link.now in
     let front = front_of c.args.builder.now in
     record {
@@ -52,8 +51,8 @@ returns-in-Position c =
 
 pub returns-in-Grid : goal.returns-in-Grid
 returns-in-Grid c =
-    let domains = domains_in c.args.scalars.now in
-    let m = graph_of c.args.message.now in
+    let domains = c.args.message.now.domains in
+    let m = c.args.message.now.graph in
     let link = arrow_of c.args.link.now in
     let front = front_of c.args.builder.now in
     record {
@@ -64,8 +63,8 @@ returns-in-Grid c =
 
 pub returns-in-Overlay : goal.returns-in-Overlay
 returns-in-Overlay c =
-    let domains = domains_in c.args.scalars.now in
-    let m = graph_of c.args.message.now in
+    let domains = c.args.message.now.domains in
+    let m = c.args.message.now.graph in
     let link = arrow_of c.args.link.now in
     let front = front_of c.args.builder.now in
     record {
@@ -76,8 +75,8 @@ returns-in-Overlay c =
 
 pub returns-in-Cover : goal.returns-in-Cover
 returns-in-Cover c =
-    let domains = domains_in c.args.scalars.now in
-    let m = graph_of c.args.message.now in
+    let domains = c.args.message.now.domains in
+    let m = c.args.message.now.graph in
     let link = arrow_of c.args.link.now in
     let front = front_of c.args.builder.now in
     record {
@@ -88,8 +87,8 @@ returns-in-Cover c =
 
 pub returns-in-Whole : goal.returns-in-Whole
 returns-in-Whole c =
-    let domains = domains_in c.args.scalars.now in
-    let m = graph_of c.args.message.now in
+    let domains = c.args.message.now.domains in
+    let m = c.args.message.now.graph in
     let link = arrow_of c.args.link.now in
     let front = front_of c.args.builder.now in
     record {

@@ -1,6 +1,5 @@
 use Rattle.std.proofs.Common.{◌≡◌, refl, sym, ap, ◌∙◌, arith, Option, Some}
-use Rattle.rx_graph.specs.Graph.{Arrow, graph_of, arrow_of}
-use Rattle.rx_forms.specs.Code.{domains_in}
+use Rattle.rx_graph.specs.Graph.{Arrow, arrow_of}
 use Rattle.rx_forms.specs.Fronts.{front_of}
 use Rattle.rx_layout.specs.Made.{behind, asked_link}
 use Rattle.rx_layout.specs.QueryOf.{with_link, link_numbered}
@@ -10,21 +9,21 @@ use Rattle.rx_layout.proofs.asked.ask_numbered.Goals as goal
 
 pub ask_link-requires : goal.ask_link-requires
 ask_link-requires c =
-    let domains = domains_in c.args.scalars.now in
-    let m = graph_of c.args.message.now in
+    let domains = c.args.message.now.domains in
+    let m = c.args.message.now.graph in
     let link = arrow_of c.in-Some.link.now in
     let is = c.in-Some.ensures.is in
     record {
-      formable = c.requires.formable is.0 link is.1;
-      narrow = c.requires.narrow is.0 link is.1;
+      formable = c.links_have_forms.ensures.formable is.0 link is.1;
+      narrow = c.links_have_forms.ensures.narrow is.0 link is.1;
       room = c.requires.room;
       bytes = λ e. Behind.bytes_type domains m c.args.node c.args.number link (c.requires.bytes e) c.in-Some.ensures.found;
     }
 
 pub returns-in-Some : goal.returns-in-Some
 returns-in-Some c =
-    let domains = domains_in c.args.scalars.now in
-    let m = graph_of c.args.message.now in
+    let domains = c.args.message.now.domains in
+    let m = c.args.message.now.graph in
     let front = front_of c.args.builder.now in
     record {
       fits = c.ask_link.ensures.fits;
@@ -34,8 +33,8 @@ returns-in-Some c =
 
 pub returns-in-None : goal.returns-in-None
 returns-in-None c =
-    let domains = domains_in c.args.scalars.now in
-    let m = graph_of c.args.message.now in
+    let domains = c.args.message.now.domains in
+    let m = c.args.message.now.graph in
     let front = front_of c.args.builder.now in
     record {
       fits = λ n r h. h;

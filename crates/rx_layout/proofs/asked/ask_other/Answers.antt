@@ -1,6 +1,5 @@
 use Rattle.std.proofs.Common.{refl, sym, ap, ◌∙◌, ◌≤◌, arith, [], ◌∷◌, Option}
-use Rattle.rx_graph.specs.Graph.{Arrow, graph_of, arrow_of}
-use Rattle.rx_forms.specs.Code.{domains_in}
+use Rattle.rx_graph.specs.Graph.{Arrow, arrow_of}
 use Rattle.rx_forms.specs.Fronts.{front_of}
 use Rattle.rx_layout.specs.Made.{behind}
 use Rattle.rx_layout.specs.QueryOf.{with_link, taken_asked}
@@ -15,15 +14,15 @@ ask_two-requires c =
     let is = c.in-Some.ensures.is in
     let has = c.requires.link in
     record {
-      formable = (c.requires.formable has.0 one has.1, c.requires.formable is.0 link is.1);
-      narrow = (c.requires.narrow has.0 one has.1, c.requires.narrow is.0 link is.1);
+      formable = (c.links_have_forms.ensures.formable has.0 one has.1, c.links_have_forms.ensures.formable is.0 link is.1);
+      narrow = (c.links_have_forms.ensures.narrow has.0 one has.1, c.links_have_forms.ensures.narrow is.0 link is.1);
       room = c.requires.room;
     }
 
 pub returns-in-Some : goal.returns-in-Some
 returns-in-Some c =
-    let domains = domains_in c.args.scalars.now in
-    let m = graph_of c.args.message.now in
+    let domains = c.args.message.now.domains in
+    let m = c.args.message.now.graph in
     let front = front_of c.args.builder.now in
     let one = arrow_of c.args.one.now in
     record {
@@ -34,8 +33,8 @@ returns-in-Some c =
 
 pub returns-in-None : goal.returns-in-None
 returns-in-None c =
-    let domains = domains_in c.args.scalars.now in
-    let m = graph_of c.args.message.now in
+    let domains = c.args.message.now.domains in
+    let m = c.args.message.now.graph in
     let front = front_of c.args.builder.now in
     let one = arrow_of c.args.one.now in
     record {

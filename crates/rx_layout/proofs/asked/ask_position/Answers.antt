@@ -1,10 +1,9 @@
 use Rattle.std.proofs.Common.{◌≡◌, ℕ, sym, ap, ◌∙◌, subst, ◌≤◌, arith, [], ◌∷◌}
 use Rattle.std.proofs.lemmas.Result.{IfOk-from_err}
-use Rattle.rx_graph.specs.Graph.{graph_of, arrow_of, type_of}
+use Rattle.rx_graph.specs.Graph.{arrow_of, type_of}
 use Rattle.rx_forms.specs.declared.linear.Linear.{Linear}
 use Rattle.rx_forms.specs.declared.linear.Form.{Form}
 use Rattle.rx_forms.specs.Steps.{size_aspect, first_form, size_form, target_field}
-use Rattle.rx_forms.specs.Code.{domains_in}
 use Rattle.rx_forms.specs.Fronts.{Front, front_of}
 use Rattle.rx_layout.specs.Made.{formula_behind}
 use Rattle.rx_layout.specs.QueryOf.{goal_step, position_formula}
@@ -27,8 +26,8 @@ returns-in_err-formula c = record { fits = IfOk-from_err c.from_residual-in_err-
 
 pub returns : goal.returns
 returns c =
-    let domains = domains_in c.args.scalars.now in
-    let m = graph_of c.args.message.now in
+    let domains = c.args.message.now.domains in
+    let m = c.args.message.now.graph in
     let link = arrow_of c.args.link.now in
     let front = front_of c.args.builder.now in
     let step = goal_step domains m front.fields front.division link in

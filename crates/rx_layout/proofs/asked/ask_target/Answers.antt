@@ -1,9 +1,8 @@
 use Rattle.std.proofs.Common.{ℕ, ap, ◌∙◌, ◌≤◌, arith, Option}
 use Rattle.std.proofs.lemmas.Result.{IfOk-from_err}
 use Rattle.rx_types.specs.Domain.{Domain}
-use Rattle.rx_graph.specs.Graph.{graph_of, arrow_of, type_of}
+use Rattle.rx_graph.specs.Graph.{arrow_of, type_of}
 use Rattle.rx_forms.specs.Steps.{size_aspect, target_field}
-use Rattle.rx_forms.specs.Code.{domains_in}
 use Rattle.rx_forms.specs.Fronts.{Front, front_of}
 use Rattle.rx_layout.specs.Made.{after_any, size_behind}
 use Rattle.rx_layout.proofs.Behind
@@ -39,8 +38,8 @@ returns-in_err-size c =
 
 pub returns : goal.returns
 returns c =
-    let domains = domains_in c.args.scalars.now in
-    let m = graph_of c.args.message.now in
+    let domains = c.args.message.now.domains in
+    let m = c.args.message.now.graph in
     let link = arrow_of c.args.link.now in
     let front = front_of c.args.builder.now in
     let mid = front_of c.ask_first.new.builder in

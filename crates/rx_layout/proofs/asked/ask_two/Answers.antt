@@ -1,7 +1,6 @@
 use Rattle.std.proofs.Common.{◌≡◌, sym, ap, ◌∙◌, arith}
 use Rattle.std.proofs.lemmas.Result.{IfOk-from_err}
-use Rattle.rx_graph.specs.Graph.{graph_of, arrow_of}
-use Rattle.rx_forms.specs.Code.{domains_in}
+use Rattle.rx_graph.specs.Graph.{arrow_of}
 use Rattle.rx_forms.specs.Fronts.{Front, front_of, after_end}
 use Rattle.rx_layout.proofs.Gathered.{if_ok}
 use Rattle.rx_layout.proofs.Behind
@@ -20,8 +19,8 @@ returns-in_err-ask_condition c = record { fits = IfOk-from_err c.from_residual.r
 
 pub returns : goal.returns
 returns c =
-    let domains = domains_in c.args.scalars.now in
-    let m = graph_of c.args.message.now in
+    let domains = c.args.message.now.domains in
+    let m = c.args.message.now.graph in
     let front = front_of c.args.builder.now in
     let one = arrow_of c.args.one.now in
     let other = arrow_of c.args.other.now in

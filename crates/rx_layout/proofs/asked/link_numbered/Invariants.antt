@@ -1,8 +1,7 @@
 use Rattle.std.proofs.Common.{◌≡◌, slice_get}
-use Rattle.rx_graph.specs.Graph.{graph_of}
 use Rattle.rx_layout.specs.QueryOf.{link_numbered}
 use Rattle.rx_layout.proofs.Checking.{left_of}
 use Rattle.rx_layout.proofs.asked.link_numbered.Given as goal
 
 abbrev pub invariant-loop-link : goal.invariant-loop-link
-invariant-loop-link l = slice_get (left_of l.node l.message.links.items l.link-index) l.before ≡ link_numbered (graph_of l.message) l.node l.number
+invariant-loop-link l = slice_get (left_of l.node l.link-items l.link-index) l.before ≡ link_numbered l.message.graph l.node l.number

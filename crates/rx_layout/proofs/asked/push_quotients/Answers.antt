@@ -3,13 +3,13 @@ use Rattle.std.proofs.lemmas.Result.{IfOk-from_err}
 use Rattle.rx_types.specs.Narrow.{places_in_bits}
 use Rattle.rx_graph.specs.Graph.{arrow_of}
 use Rattle.rx_types.specs.declared.interval.Interval.{Interval}
-use Rattle.rx_forms.specs.Code.{limits_in}
 use Rattle.rx_forms.specs.Fronts.{Front, front_of}
 use Rattle.rx_layout.specs.Made.{units_behind}
 use Rattle.rx_layout.specs.QueryOf.{unit_rows, interval_or, rest_interval}
 use Rattle.rx_layout.proofs.Gathered.{if_ok}
 use Rattle.rx_layout.proofs.Behind
 use Rattle.rx_layout.proofs.AskedFit
+use Rattle.rx_forms.specs.Code.{limits}
 use Rattle.rx_layout.proofs.asked.push_quotients.Goals as goal
 
 pub interval_or-first-requires : goal.interval_or-first-requires
@@ -29,7 +29,7 @@ push_quotient-requires-2 c = let e = ap (λ (x : Front). x.division) c.in_ok-pus
 
 pub returns : goal.returns
 returns c =
-    let limit = limits_in c.args.scalars.now c.args.message.now in
+    let limit = limits c.args.message.now in
     let link = arrow_of c.args.link.now in
     let front = front_of c.args.builder.now in
     let mid = front_of c.push_quotient.new.builder in

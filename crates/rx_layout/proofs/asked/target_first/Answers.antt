@@ -1,9 +1,9 @@
 use Rattle.std.proofs.Common.{◌≡◌, ℕ, subst, ◌≤◌, arith, List, IfOk}
-use Rattle.rx_graph.specs.Graph.{graph_of, arrow_of}
+use Rattle.rx_graph.specs.Graph.{arrow_of}
 use Rattle.rx_forms.specs.declared.field.FieldForms.{FieldForms}
 use Rattle.rx_forms.specs.declared.linear.Linear.{Linear}
 use Rattle.rx_forms.specs.Steps.{form_or, end_form}
-use Rattle.rx_forms.specs.Code.{formed_all, domains_in, limits_in}
+use Rattle.rx_forms.specs.Code.{formed_all, limits}
 use Rattle.rx_forms.specs.Worked.{HasAspect}
 use Rattle.rx_forms.specs.Fronts.{front_of}
 use Rattle.rx_layout.specs.Made.{after_any}
@@ -25,9 +25,9 @@ first_form-requires-clause-room c = c.requires.room
 
 pub returns : goal.returns
 returns c =
-    let domains = domains_in c.args.scalars.now in
-    let m = graph_of c.args.message.now in
-    let limit = limits_in c.args.scalars.now c.args.message.now in
+    let domains = c.args.message.now.domains in
+    let m = c.args.message.now.graph in
+    let limit = limits c.args.message.now in
     let front = front_of c.args.builder.now in
     let link = arrow_of c.args.link.now in
     let w0 = c.args.builder.now.work in

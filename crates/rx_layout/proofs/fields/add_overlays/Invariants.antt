@@ -1,9 +1,7 @@
 use Rattle.std.proofs.Common.{◌≡◌, ◌++◌, [], take, drop}
-use Rattle.rx_graph.specs.Graph.{graph_of}
-use Rattle.rx_forms.specs.Code.{domains_in}
 use Rattle.rx_layout.specs.Made.{laid_from}
 use Rattle.rx_layout.proofs.fields.add_overlays.Given as goal
 
 abbrev pub invariant-loop-place : goal.invariant-loop-place
 invariant-loop-place l =
-    l.forms ++ laid_from (domains_in l.scalars) (graph_of l.message) (take l.place l.fields) (drop l.place l.fields) ≡ l.fn.forms ++ laid_from (domains_in l.scalars) (graph_of l.message) [] l.fields
+    l.forms ++ laid_from l.message.domains l.message.graph (take l.place l.fields) (drop l.place l.fields) ≡ l.fn.forms ++ laid_from l.message.domains l.message.graph [] l.fields

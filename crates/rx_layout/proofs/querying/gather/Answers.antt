@@ -1,9 +1,7 @@
 use Rattle.std.proofs.Common.{◌≡◌, ℕ, sym, ap, ◌∙◌, subst, ◌+◌, ◌≤◌, ◌<◌, arith}
 use Rattle.std.proofs.lemmas.Result.{IfOk-from_err}
-use Rattle.rx_graph.specs.Graph.{graph_of}
 use Rattle.rx_forms.specs.Steps.{links_on}
 use Rattle.rx_forms.specs.Gathered.{into_fields}
-use Rattle.rx_forms.specs.Code.{domains_in}
 use Rattle.rx_forms.specs.Fronts.{Front, front_of, first_front, after_links}
 use Rattle.rx_forms.proofs.Looping
 use Rattle.rx_layout.specs.Made.{behind}
@@ -24,8 +22,6 @@ pub gather_fields-requires : goal.gather_fields-requires
 gather_fields-requires c =
     let e = c.start-builder.ensures in
     record {
-      formable = c.requires.formable;
-      narrow = c.requires.narrow;
       few = few_ends c.start-builder.result.scalar c.args.count _ (ap (λ (x : Front). x.scalar) e) c.requires.count c.requires.few;
       room = room_first c.start-builder.result.work.next c.args.count (ap (λ (x : Front). x.division) e) c.requires.few;
     }
@@ -35,14 +31,12 @@ returns-in_err-gather_fields c = record { fits = IfOk-from_err c.from_residual.r
 
 pub ask-requires : goal.ask-requires
 ask-requires c =
-    let domains = domains_in c.args.scalars.now in
-    let m = graph_of c.args.message.now in
+    let domains = c.args.message.now.domains in
+    let m = c.args.message.now.graph in
     let links = into_fields (links_on domains m c.args.path.now) in
     let first = front_of c.start-builder.result in
     let g = c.in_ok-gather_fields.ensures in
     record {
-      formable = c.requires.formable;
-      narrow = c.requires.narrow;
       room = subst (λ (x : Front). x.division ≤ 190) (sym g.gone) (Looping.links_room domains m first links (room_first c.start-builder.result.work.next c.args.count (ap (λ (x : Front). x.division) c.start-builder.ensures) c.requires.few) g.within);
       goal = c.requires.goal;
     }
@@ -52,12 +46,12 @@ returns-in_err-ask c = record { fits = IfOk-from_err c.from_residual-in_err-ask.
 
 pub returns : goal.returns
 returns c =
-    let domains = domains_in c.args.scalars.now in
-    let m = graph_of c.args.message.now in
+    let domains = c.args.message.now.domains in
+    let m = c.args.message.now.graph in
     let links = into_fields (links_on domains m c.args.path.now) in
     let e = c.start-builder.ensures ∙ ap first_front c.requires.count in
     record {
       gone = c.in_ok-ask.ensures.gone ∙ ap (λ (x : Front). behind (asked_by domains m c.args.goal.now x.fields x.division) x) (c.in_ok-gather_fields.ensures.gone ∙ ap (λ (x : Front). after_links domains m x links) e);
       room = c.in_ok-ask.ensures.room;
-      fits = λ n r. asked_fits domains m n c.args.count c.args.path.now c.args.goal.now (front_of c.start-builder.result) (front_of c.gather_fields.new.builder) (front_of c.ask.new.builder) c.requires.narrow c.start-builder.ensures c.requires.count c.in_ok-gather_fields.ensures.gone c.in_ok-gather_fields.ensures.within c.in_ok-ask.ensures.gone c.in_ok-ask.ensures.fits r;
+      fits = λ n r. asked_fits domains m n c.args.count c.args.path.now c.args.goal.now (front_of c.start-builder.result) (front_of c.gather_fields.new.builder) (front_of c.ask.new.builder) c.links_have_forms.ensures.narrow c.start-builder.ensures c.requires.count c.in_ok-gather_fields.ensures.gone c.in_ok-gather_fields.ensures.within c.in_ok-ask.ensures.gone c.in_ok-ask.ensures.fits r;
     }

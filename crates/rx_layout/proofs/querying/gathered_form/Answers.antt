@@ -1,21 +1,16 @@
 use Rattle.std.proofs.Common.{ap, ◌∙◌, ◌++◌, ◌∷◌, [], List, map}
-use Rattle.rx_graph.specs.Graph.{graph_of}
 use Rattle.rx_forms.specs.declared.linear.Linear.{Linear}
 use Rattle.rx_forms.specs.declared.linear.Form.{Form, All}
 use Rattle.rx_forms.specs.declared.field.FieldForms.{FieldForms}
-use Rattle.rx_forms.specs.Code.{domains_in}
 use Rattle.rx_layout.specs.Made.{placed, typed_field, laid_from}
 use Rattle.rx_layout.specs.QueryOf.{rows}
 use Rattle.rx_layout.proofs.Answering.{all_gathered}
 use Rattle.rx_layout.proofs.querying.gathered_form.Goals as goal
 
-pub add_types-requires : goal.add_types-requires
-add_types-requires c = c.requires
-
 pub returns : goal.returns
 returns c =
-    let domains = domains_in c.args.scalars.now in
-    let m = graph_of c.args.message.now in
+    let domains = c.args.message.now.domains in
+    let m = c.args.message.now.graph in
     let fs = c.as_slice-fields.ensures.value in
     ap All (all_gathered _ _ _ _ _ _ c.new-forms.result c.add_types.new.forms c.push.new.self c.add_places.new.forms c.add_overlays.new.forms c.append.new.self c.push-2.new.self
     c.new-forms.ensures

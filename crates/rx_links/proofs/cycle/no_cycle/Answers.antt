@@ -2,7 +2,8 @@ use Rattle.std.proofs.Common.{◌≡◌, ◌∙◌, ap, sym, subst, length, ◌+
 use Rattle.rx_cycle.specs.declared.ends.Ends.{Ends}
 use Rattle.rx_cycle.specs.Graph.{AreBelow, first_returning}
 use Rattle.rx_judge.specs.Meaning.{Meaning}
-use Rattle.rx_judge.specs.declared.fault.Refusal.{Refusal}
+use Rattle.rx_syntax.specs.declared.rule.Refusal.{Refusal}
+use Rattle.rx_syntax.specs.declared.rule.Rule.TheVariants as rule
 use Rattle.rx_links.specs.declared.links.Way.{Way}
 use Rattle.rx_links.specs.Cycle.{ends_of, told, unless_returning}
 use Rattle.rx_links.proofs.Acyclic.{ends_below}

@@ -1,49 +1,50 @@
-use Rattle.std.proofs.Common.{◌≡◌, List, length, map, Some, Err, refl, sym, ap, subst, ◌∙◌, arith}
-use Rattle.std.specs.Prelude.{slice_get}
-use Rattle.std.specs.List.{AllByRecursion}
-use Rattle.rx_types.specs.Domain.{Domain, boolean}
-use Rattle.rx_graph.specs.Graph.{graph_of, domains_of}
-use Rattle.rx_forms.specs.PathLimit.{MayBeChecked}
-use Rattle.rx_spec.specs.Elaboration.{elaborated}
-use Rattle.rx_program.specs.Stage.{of_packages}
-use Rattle.rx_program.proofs.OperandLemmas.{domains_same, first_same}
+use Rattle.std.proofs.Common.{◌≡◌, ℕ, List, length, refl, sym, ap, subst, arith, Result, Ok}
+use Rattle.rx_syntax.specs.declared.tree.PackageTree.{PackageTree}
+use Rattle.rx_graph.specs.Graph.{Specified, spec_of}
+use Rattle.rx_forms.specs.Checkable.{TypedMessages}
+use Rattle.rx_spec.specs.Elaboration.{elaborated, Told}
+use Rattle.rx_program.specs.Asked.{ask_of}
+use Rattle.rx_program.specs.Request.{AreMeant, request_of}
+use Rattle.rx_program.specs.Stage.{AreServed, IsWithin}
+use Rattle.rx_program.proofs.AnswerLemmas.{meant_by}
+use Rattle.rx_program.proofs.OperandLemmas.{all_checkable}
 use Rattle.rx_program.proofs.ReadLemmas.{left_alone}
-use Rattle.rx_program.proofs.RequestLemmas.{told_within}
-use Rattle.rx_program.proofs.StageLemmas.{found_within}
+use Rattle.rx_program.proofs.RequestLemmas.{fault_within}
+use Rattle.rx_program.proofs.StageLemmas.{unserved_within}
 use Rattle.rx_program.proofs.serving.answer_packages.Goals as goal
 
 pub unserved-requires : goal.unserved-requires
 unserved-requires g c =
-    let trees = c.as_slice-trees.result.now in
-    let found = c.in-Some.found in
-    let is : of_packages 0 trees ≡ Some found = sym c.first_unserved.ensures ∙ c.in-Some.is in
-    let within = found_within 0 trees found is in
+    let within = unserved_within c.as_slice-trees.result.now c.in-Err.fault c.in-Err.ensures.refused in
     let asked = ap length c.as_slice-asked.ensures.value in
-    let all = ap length c.as_slice-trees.ensures.value in
-    let same = c.requires.paired.same in
-    omega arith
+    let trees = ap length c.as_slice-trees.ensures.value in
+    let paired = c.requires.same in
+    let same : length c.as_slice-trees.result.now ≡ length c.as_slice-asked.result.now = omega arith in
+    subst (λ (n : ℕ). IsWithin n c.in-Err.fault) same within
+
+pub of-requires : goal.of-requires
+of-requires g c = all_checkable c.in-Ok.spec c.in-Ok.ensures.sound
+
+pub answer_spec-requires : goal.answer_spec-requires
+answer_spec-requires g c =
+    let packages = c.args.packages.now in
+    let ok : Result Specified Told = Ok (spec_of c.in-Ok.spec) in
+    let served = subst (λ (ps : List PackageTree). AreServed ps) c.as_slice-trees.ensures.value c.in_default.ensures.served in
+    let by_names = subst (λ (ns : List (List ℕ)). elaborated ns c.as_slice-trees.result.now ≡ ok) c.as_slice-asked.ensures.value c.in-Ok.ensures.meaning in
+    let meaning = subst (λ (ps : List PackageTree). elaborated packages.asked.items ps ≡ ok) c.as_slice-trees.ensures.value by_names in
+    subst (λ (t : TypedMessages). AreMeant (request_of (ask_of c.args.ask.now) packages) t) (sym c.of.ensures) (meant_by (ask_of c.args.ask.now) packages c.in-Ok.spec served meaning)
 
 pub broken-requires : goal.broken-requires
 broken-requires g c =
-    let trees = c.as_slice-trees.result.now in
-    let told = c.in-Err-Refused.told in
-    let is : elaborated c.as_slice-asked.result.now trees ≡ Err told = rw c.in-Err-Refused.field-0-is at c.in-Err-Refused.ensures.refusal in
-    let within = told_within c.as_slice-asked.result.now trees told is in
+    let within = fault_within c.as_slice-asked.result.now c.as_slice-trees.result.now c.in-Err-elaborate.fault c.in-Err-elaborate.ensures.refusal in
     let asked = ap length c.as_slice-asked.ensures.value in
-    let all = ap length c.as_slice-trees.ensures.value in
-    let same = c.requires.paired.same in
-    omega arith
+    let trees = ap length c.as_slice-trees.ensures.value in
+    let paired = c.requires.same in
+    let same : length c.as_slice-trees.result.now ≡ length c.as_slice-asked.result.now = omega arith in
+    subst (λ (n : ℕ). IsWithin n c.in-Err-elaborate.fault) same within
 
-pub answer_spec-requires-clause-messages : goal.answer_spec-requires-clause-messages
-answer_spec-requires-clause-messages g c =
-    subst (λ (ds : List Domain). AllByRecursion (MayBeChecked ds) (map graph_of c.in-Ok.spec.messages.items)) (domains_same c.in-Ok.spec) c.in-Ok.ensures.sound.messages
+pub returns-in-Err-clause-unread : goal.returns-in-Err-clause-unread
+returns-in-Err-clause-unread g c = left_alone c.unserved.result _ refl
 
-pub answer_spec-requires-clause-boolean : goal.answer_spec-requires-clause-boolean
-answer_spec-requires-clause-boolean g c =
-    first_same (domains_of c.in-Ok.spec) (subst (λ (ds : List Domain). slice_get ds 0 ≡ Some boolean) (domains_same c.in-Ok.spec) c.in-Ok.ensures.sound.boolean)
-
-pub returns-in-Some-clause-unread : goal.returns-in-Some-clause-unread
-returns-in-Some-clause-unread g c = left_alone c.unserved.result _ refl
-
-pub returns-in-Err-Refused-clause-unread : goal.returns-in-Err-Refused-clause-unread
-returns-in-Err-Refused-clause-unread g c = left_alone c.broken.result _ refl
+pub returns-in-Err-elaborate-clause-unread : goal.returns-in-Err-elaborate-clause-unread
+returns-in-Err-elaborate-clause-unread g c = left_alone c.broken.result _ refl

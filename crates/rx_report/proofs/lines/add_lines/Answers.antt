@@ -1,5 +1,4 @@
 use Rattle.std.proofs.Common.{◌∙◌}
-use Rattle.rx_graph.specs.Graph.{domains_of, graph_of}
 use Rattle.rx_report.specs.Lines.{line_text}
 use Rattle.rx_report.specs.Reported.{counts_in}
 use Rattle.rx_report.proofs.Counting.{counted_more}
@@ -8,7 +7,7 @@ use Rattle.rx_report.proofs.lines.add_lines.Goals as goal
 
 pub loop-line-preserved : goal.loop-line-preserved
 loop-line-preserved c =
-    let tell = line_text (domains_of c.args.spec.now) (graph_of c.args.message.now) c.args.splits in
+    let tell = line_text c.args.message.now.domains c.args.message.now.graph c.args.splits in
     let i = c.loop-line.line-index in
     let line = c.line-item.result in
     record {

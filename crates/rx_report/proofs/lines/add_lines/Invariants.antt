@@ -1,5 +1,4 @@
 use Rattle.std.proofs.Common.{◌≡◌, ◌≤◌, ◌++◌, length, drop}
-use Rattle.rx_graph.specs.Graph.{domains_of, graph_of}
 use Rattle.rx_report.specs.Lines.{counted, lines_text}
 use Rattle.rx_report.specs.Reported.{counts_in, total_in}
 use Rattle.rx_report.proofs.lines.add_lines.Given as goal
@@ -7,7 +6,7 @@ use Rattle.rx_report.proofs.lines.add_lines.Given as goal
 -- with the lines that are left it is the whole text, and they are all counts
 abbrev pub invariant-loop-line : goal.invariant-loop-line
 invariant-loop-line l = record {
-  text : l.reported.text.items ++ lines_text (domains_of l.spec) (graph_of l.message) l.splits (drop l.line-index l.lines) ≡ l.fn.reported.text.items ++ lines_text (domains_of l.spec) (graph_of l.message) l.splits l.lines;
+  text : l.reported.text.items ++ lines_text l.message.domains l.message.graph l.splits (drop l.line-index l.lines) ≡ l.fn.reported.text.items ++ lines_text l.message.domains l.message.graph l.splits l.lines;
   counts : counted (drop l.line-index l.lines) (counts_in l.reported) ≡ counted l.lines (counts_in l.fn.reported);
   bounded : total_in l.reported ≤ length l.reported.text.items;
 }

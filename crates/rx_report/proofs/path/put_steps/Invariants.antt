@@ -1,10 +1,9 @@
 use Rattle.std.proofs.Common.{◌≡◌, ◌++◌, drop}
 use Rattle.std.specs.List.{flat_map}
-use Rattle.rx_graph.specs.Graph.{graph_of}
 use Rattle.rx_report.specs.Subjects.{step_text}
 use Rattle.rx_report.proofs.path.put_steps.Given as goal
 
 -- the text with the links that are left is the whole text
 abbrev pub invariant-loop-place : goal.invariant-loop-place
 invariant-loop-place l =
-    l.text.items ++ flat_map (step_text (graph_of l.message)) (drop l.place-index l.path) ≡ l.fn.text.items ++ flat_map (step_text (graph_of l.message)) l.path
+    l.text.items ++ flat_map (step_text l.message.graph) (drop l.place-index l.path) ≡ l.fn.text.items ++ flat_map (step_text l.message.graph) l.path

@@ -1,16 +1,18 @@
 use Rattle.std.proofs.Common.{◌∙◌, ap, ◌++◌, List}
 use Rattle.rx_checks.specs.declared.report.Line.{Line}
-use Rattle.rx_graph.specs.Graph.{domains_of, graph_of}
+use Rattle.rx_graph.specs.Typed.{Typed}
 use Rattle.rx_report.specs.Lines.{counted, lines_text}
 use Rattle.rx_report.specs.Reported.{counts_in}
 use Rattle.rx_report.proofs.reporting.add_message.Goals as goal
 
 pub returns-clause-adds : goal.returns-clause-adds
 returns-clause-adds c =
-    let tell = lines_text (domains_of c.args.spec.now) (graph_of c.args.message.now) c.args.splits in
+    let old = c.args.reported.now in
+    let told = ap (λ (t : Typed). old.text.items ++ lines_text t.domains t.graph c.args.splits c.as_slice-lines.result.now) c.elaborated.ensures in
+    let tell = lines_text c.args.message.now.domains c.args.message.now.graph c.args.splits in
     record {
       report = c.in_ok-report.report;
       is = c.in_ok-report.ensures;
-      counts = c.in_ok-add_lines.ensures.counts ∙ ap (λ (ls : List Line). counted ls (counts_in c.args.reported.now)) c.as_slice.ensures.value;
-      text = c.in_ok-add_lines.ensures.text ∙ ap (λ (ls : List Line). c.args.reported.now.text.items ++ tell ls) c.as_slice.ensures.value;
+      counts = c.in_ok-add_lines.ensures.counts ∙ ap (λ (ls : List Line). counted ls (counts_in old)) c.as_slice-lines.ensures.value;
+      text = c.in_ok-add_lines.ensures.text ∙ told ∙ ap (λ (ls : List Line). old.text.items ++ tell ls) c.as_slice-lines.ensures.value;
     }

@@ -1,43 +1,35 @@
-use Rattle.std.proofs.Common.{◌∙◌, sym, subst, ap, List, map, take}
-use Rattle.std.specs.List.{AllByRecursion}
-use Rattle.rx_graph.specs.declared.message.Message.{Message}
-use Rattle.rx_graph.specs.Graph.{Graph, domains_of, graph_of}
-use Rattle.rx_forms.specs.PathLimit.{MayBeChecked}
+use Rattle.std.proofs.Common.{◌<◌, subst, List, length, take, arith}
+use Rattle.std.specs.Str.{str_eq_ignore_ascii_case}
+use Rattle.rx_graph.specs.Graph.{Graph}
 use Rattle.rx_report.specs.Reported.{messages_of}
-use Rattle.rx_report.proofs.Messages.{IsToldOf, told_none, told_next, told_whole, messages_next, messages_all, all_at}
+use Rattle.rx_report.proofs.Messages.{IsToldOf, told_none, told_next, told_whole, messages_next, messages_all, message_there}
 use Rattle.rx_report.proofs.reporting.report_package.Goals as goal
 
-pub add_if_asked-requires-clause-message : goal.add_if_asked-requires-clause-message
-add_if_asked-requires-clause-message c =
-    let checked = MayBeChecked (domains_of c.args.spec.now) in
-    let ms = c.as_slice-message-items.result.now in
-    let all = subst (λ (ns : List Message). AllByRecursion checked (map graph_of ns)) (sym c.as_slice-message-items.ensures.value) c.requires.messages in
-    all_at checked ms c.loop-message.message-index c.message-item.result c.message-item.result all c.loop-message-test.true c.message-item.is
-
-pub loop-message-init : goal.loop-message-init
-loop-message-init c = record {
-  told = told_none (domains_of c.args.spec.now) c.args.splits c.new-reported.result c.new-reported.ensures.counts c.new-reported.ensures.text;
+pub loop-place-init : goal.loop-place-init
+loop-place-init c = record {
+  told = told_none c.args.spec.now.domains c.args.splits c.new-reported.result c.new-reported.ensures.counts c.new-reported.ensures.text;
   bounded = c.new-reported.ensures.bounded;
 }
 
-pub loop-message-preserved : goal.loop-message-preserved
-loop-message-preserved c =
-    let domains = domains_of c.args.spec.now in
+pub loop-place-preserved : goal.loop-place-preserved
+loop-place-preserved c =
+    let domains = c.args.spec.now.domains in
     let name = c.args.name.now in
-    let ms = c.as_slice-message-items.result.now in
-    let i = c.loop-message.message-index in
-    let m = c.message-item.result in
+    let ms = c.args.spec.now.graphs in
+    let i = c.loop-place.place in
+    let within : i < length ms = omega (arith, c.loop-place-test.true, c.count-place-end.ensures) in
+    let there = message_there ms i within in
+    let m = there.0 in
     record {
       told =
-          subst (λ (ns : List Graph). IsToldOf domains c.args.splits ns c.add_if_asked.new.reported)
-          (messages_next name ms i m c.is_same-asked.result c.loop-message-test.true c.message-item.is c.is_same-asked.ensures)
-          (told_next domains c.args.splits c.is_same-asked.result (messages_of name (map graph_of (take i ms))) (graph_of m) c.loop-message.reported c.add_if_asked.new.reported c.loop-message.invariant.told c.in_ok-add_if_asked.ensures.adds);
-      bounded = c.in_ok-add_if_asked.ensures.bounded;
+          subst (λ (ns : List Graph). IsToldOf domains c.args.splits ns c.add_at.new.reported) (messages_next name ms i m there.1)
+          (told_next domains c.args.splits (str_eq_ignore_ascii_case m.«package» name) (messages_of name (take i ms)) m c.loop-place.reported c.add_at.new.reported c.loop-place.invariant.told (c.in_ok-add_at.ensures.adds m there.1));
+      bounded = c.in_ok-add_at.ensures.bounded;
     }
 
 pub returns : goal.returns
 returns c =
-    let domains = domains_of c.args.spec.now in
-    let ms = c.as_slice-message-items.result.now in
-    let all = messages_all c.args.name.now ms c.loop-message.message-index c.loop-message-test.false ∙ ap (λ (ns : List Message). messages_of c.args.name.now (map graph_of ns)) c.as_slice-message-items.ensures.value in
-    told_whole domains c.args.splits _ c.loop-message.reported c.close.new.self (subst (λ (ns : List Graph). IsToldOf domains c.args.splits ns c.loop-message.reported) all c.loop-message.invariant.told) c.close.ensures.counts c.in_ok-close.ensures.text
+    let domains = c.args.spec.now.domains in
+    let ms = c.args.spec.now.graphs in
+    let all = messages_all c.args.name.now ms c.loop-place.place (omega (arith, c.loop-place-test.false, c.count-place-end.ensures)) in
+    told_whole domains c.args.splits _ c.loop-place.reported c.close.new.self (subst (λ (ns : List Graph). IsToldOf domains c.args.splits ns c.loop-place.reported) all c.loop-place.invariant.told) c.close.ensures.counts c.in_ok-close.ensures.text

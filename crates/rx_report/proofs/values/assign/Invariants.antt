@@ -1,5 +1,4 @@
 use Rattle.std.proofs.Common.{◌≡◌, ◌++◌, drop}
-use Rattle.rx_graph.specs.Graph.{graph_of}
 use Rattle.rx_report.specs.Subjects.{number_among, values_from}
 use Rattle.rx_report.proofs.Numbers.{AllBelow}
 use Rattle.rx_report.proofs.values.assign.Given as goal
@@ -7,6 +6,6 @@ use Rattle.rx_report.proofs.values.assign.Given as goal
 -- the fields so far, with those that are left
 abbrev pub invariant-loop-place : goal.invariant-loop-place
 invariant-loop-place l = record {
-  left : l.values ++ values_from (λ f. number_among f l.fields l.numbers) l.place (drop l.place (graph_of l.message).fields) ≡ values_from (λ f. number_among f l.fields l.numbers) 0 (graph_of l.message).fields;
+  left : l.values ++ values_from (λ f. number_among f l.fields l.numbers) l.place (drop l.place l.message.graph.fields) ≡ values_from (λ f. number_among f l.fields l.numbers) 0 l.message.graph.fields;
   below : AllBelow l.place l.values;
 }

@@ -2,7 +2,7 @@ use Rattle.std.proofs.Common.{◌≡◌, Option, Some, None, Bool, false, Err, a
 use Rattle.std.specs.Prelude.{is_some}
 use Rattle.serde_json.specs.View.{view}
 use Rattle.rx_types.specs.Domain.{Domain}
-use Rattle.rx_graph.specs.Graph.{domains_of, graph_of, type_of}
+use Rattle.rx_graph.specs.Graph.{domains_in, graph_of, type_of}
 use Rattle.rx_graph.specs.Fits.{content_of}
 use Rattle.rx_values.specs.Names.{field_named}
 use Rattle.rx_values.specs.Reading.{BadValue, content_from}
@@ -12,7 +12,7 @@ use Rattle.rx_values.proofs.reading.with_member.Goals as goal
 
 pub returns-in-Ok-None-clause-refused : goal.returns-in-Ok-None-clause-refused
 returns-in-Ok-None-clause-refused c =
-    let domains = domains_of c.args.spec.now in
+    let domains = domains_in c.args.scalars.now in
     let m = graph_of c.args.message.now in
     let key = c.args.key.now in
     let d = view c.args.value.now in

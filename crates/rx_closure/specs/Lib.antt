@@ -1,0 +1,4 @@
+pub mod Names
+pub mod Refusals
+pub mod Closure
+pub mod Stop
