@@ -1,5 +1,5 @@
 -- Links as they stand in memory, and without their places there.
-use Rattle.std.proofs.Common.{◌≡◌, refl, sym, ap, ◌∙◌, ℕ, zero, suc, ◌≤◌, arith, Bool, List, [], ◌∷◌, length, take, Option, Some, None, option_map, map, Bor}
+use Rattle.std.proofs.Common.{◌≡◌, refl, sym, ap, ◌∙◌, ℕ, zero, suc, ◌≤◌, arith, Bool, List, [], ◌∷◌, length, take, Option, Some, None, option_map, Bor}
 use Rattle.std.specs.List.{ItemBy, slice_get, count_by}
 use Rattle.std.proofs.lemmas.Option.{slice_get-get_or}
 use Rattle.rx_graph.specs.declared.message.Link.{Link}
