@@ -9,7 +9,6 @@ pub mod OneText
 pub mod OneWalk
 pub mod OneStage
 pub mod OneClosure
-pub mod Carried
 pub mod OneReported
 pub mod OneRequest
 pub mod OneAnswer

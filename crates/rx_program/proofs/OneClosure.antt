@@ -9,7 +9,7 @@ use Rattle.rx_spec.specs.Elaboration.{elaborated}
 use Rattle.rx_meaning.specs.Laws.{OneMeaning}
 use Rattle.rx_closure.specs.Closure.{HasNone, HasTree, AreFetched, no_packages, one_absent, one_fetched, IsClosure}
 use Rattle.rx_program.specs.Stage.{of_packages}
-use Rattle.rx_program.specs.Request.{Request}
+use Rattle.rx_program.specs.Answers.{Request}
 use Rattle.rx_program.proofs.OneText.{no_tree, tree_same}
 use Rattle.rx_program.proofs.OneWalk.{list_same}
 use Rattle.rx_program.proofs.OneStage.{packages_same}

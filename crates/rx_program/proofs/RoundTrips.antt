@@ -1,13 +1,12 @@
 -- What one command encoded another decodes as the same values, and what one decoded another encodes as the same buffer.
-use Rattle.std.proofs.Common.{◌≡◌, ℕ, Bool, true, false, List, [], refl, sym, ap, ◌∙◌, subst, Some, Ok, if◌then◌else◌}
+use Rattle.std.proofs.Common.{◌≡◌, ℕ, Bool, true, false, List, refl, sym, ap, ◌∙◌, subst, Option, Some, Ok, inl, inr, if◌then◌else◌}
 use Rattle.std.specs.Prelude.{◌==◌}
 use Rattle.rx_io.specs.Shelf.{Texts}
 use Rattle.rx_types.specs.Domain.{Domain}
-use Rattle.rx_graph.specs.Graph.{Graph, Specified}
+use Rattle.rx_graph.specs.Graph.{Graph}
 use Rattle.rx_graph.specs.Fits.{Assigned}
 use Rattle.rx_graph.specs.Elaborated.{IsSound}
 use Rattle.rx_trees.specs.Laws.{OneTree}
-use Rattle.rx_spec.specs.Laws.{domains_in}
 use Rattle.rx_meaning.specs.Laws.{OneMeaning}
 use Rattle.rx_values.specs.Laws.{AreNamed}
 use Rattle.rx_values.specs.Reading.{value_of}
@@ -21,22 +20,29 @@ use Rattle.rx_encode.specs.Laws.{IsBuffer}
 use Rattle.rx_encode.specs.declared.encoding.Encoded.{Encoded}
 use Rattle.rx_encode.specs.declared.encoding.Encoded.TheVariants as encoded
 use Rattle.rx_encode.proofs.RoundTrip.{printed_is_encoded, encoded_reads}
-use Rattle.rx_program.specs.Words.{Does, Ask, Checks, Decodes, Encodes, message_asked}
+use Rattle.rx_program.specs.Words.{Does, Ask, Checks, Decodes, Encodes}
 use Rattle.rx_closure.specs.Closure.{IsClosure}
-use Rattle.rx_program.specs.Request.{Request, Finds, Serves}
-use Rattle.rx_program.specs.Answers.{Asks, Answers}
+use Rattle.rx_forms.specs.Checkable.{TypedMessages}
+use Rattle.rx_syntax.specs.declared.tree.PackageTree.{PackageTree}
+use Rattle.rx_decode.specs.declared.decoding.Decoded.{Decoded}
+use Rattle.rx_decode.specs.declared.decoding.Decoded.TheVariants as decoded
 use Rattle.rx_lines.specs.Lines.{line}
-use Rattle.rx_program.specs.Outcome.{FaultCounts, Outcome, IsText, status_of}
+use Rattle.rx_program.specs.Operand.{message_in}
+use Rattle.rx_program.specs.Input.{IsReadAs, IsWrittenAs}
+use Rattle.rx_program.specs.Refusals.{IsRefusedFor, Means}
+use Rattle.rx_program.specs.Request.{Serves, IsDenied, IsAnswered, IsDone}
+use Rattle.rx_program.specs.Answers.{EndsAt, Request, Asks, Answers, by_words, by_walk, by_refusal, by_messages}
+use Rattle.rx_program.specs.Outcome.{FaultCounts, Outcome, IsText, status_of, status_of_encoded, encoded_text}
 use Rattle.rx_program.specs.RoundTrips.{AskThat, AskBoth, IsJsonOfText, EncodedIsDecoded, DecodedIsEncoded}
+use Rattle.rx_program.specs.declared.status.Status.{Status}
 use Rattle.rx_program.specs.declared.status.Status.TheVariants.{Done, NotAccepted, Words, Specification, Undecided, InputRefused, Limit}
-use Rattle.rx_program.specs.declared.status.Status.TheVariants.{SourceFault as SourceStatus, ShelfFault as ShelfStatus}
-use Rattle.rx_program.specs.declared.answer.Decoding.TheVariants.{Json, Stuck}
-use Rattle.rx_program.specs.declared.answer.Encoding.TheVariants as encoding
+use Rattle.rx_program.specs.declared.status.Status.TheVariants.{SourceFault as SourceStatus}
 use Rattle.rx_program.specs.declared.answer.Answer.{Answer}
-use Rattle.rx_program.specs.declared.answer.Answer.TheVariants.{Usage, ShelfFault, NoPackage, TextLimit, Refused, PackageLimit, Unserved, Broken, NoMessage, Checked, Rejected, SourceFault, InputLimit, Input, Output}
+use Rattle.rx_program.specs.declared.answer.Answer.TheVariants.{Usage, ShelfFault, NoPackage, TextLimit, Refused, PackageLimit, NoMessage, Rejected, SourceFault, InputLimit}
+use Rattle.rx_program.specs.declared.answer.Answer.TheVariants as answer
 use Rattle.rx_program.proofs.OneClosure.{HaveSame, closures_same}
-use Rattle.rx_program.proofs.Carried.{finds}
-use Rattle.rx_program.proofs.OneRequest.{means_same, graph_same, alone, none, refusal, buffer, long}
+use Rattle.rx_program.proofs.OneAnswer.{meanings_same}
+use Rattle.rx_program.proofs.OneRequest.{alone, none, refusal, buffer, long}
 use Rattle.rx_program.proofs.LineEnd.{value_behind_line}
 
 -- ---- one message
@@ -89,136 +95,186 @@ module _ (domains : List Domain) (m : Graph) (sound : IsSound domains m) (named 
 
 -- ---- what a command did that ended with Done
 
-data Did (words : List (List ℕ)) (texts : Texts) (input written : List ℕ) : Type 0 where
-  checked : (r : Request) → Asks words texts r → r.ask.does ≡ Checks → Did words texts input written
-  decoded : (r : Request) → Asks words texts r → (s : Specified) (m : Graph) (name : List ℕ) → Serves r s m → r.ask.does ≡ Decodes name → (text : List ℕ) → IsJson (domains_in s) m input text → written ≡ line text
-      → Did words texts input written
-  encodes : (r : Request) → Asks words texts r → (s : Specified) (m : Graph) (name : List ℕ) → Serves r s m → r.ask.does ≡ Encodes name → (e : Encoded) → IsEncoded (domains_in s) m input e → IsBuffer e written → Did words texts input written
-
-not_rejected : (b : Bool) → Done ≡ (if b then Undecided else NotAccepted) → ⊥
-not_rejected true e = cc
-not_rejected false e = cc
-
-module _ (words : List (List ℕ)) (texts : Texts) (input written : List ℕ) where
-  did : (a : Answer) → Answers words texts input a → Done ≡ status_of a → IsText a written → Did words texts input written
-  did Usage is status text = absurd (let no : Done ≡ Words = status in cc)
-  did ShelfFault is status text = absurd (let no : Done ≡ ShelfStatus = status in cc)
-  did (NoPackage name) is status text = absurd (let no : Done ≡ Specification = status in cc)
-  did (TextLimit file) is status text = absurd (let no : Done ≡ Limit = status in cc)
-  did (Refused file x) is status text = absurd (let no : Done ≡ Specification = status in cc)
-  did PackageLimit is status text = absurd (let no : Done ≡ Limit = status in cc)
-  did (Unserved file u) is status text = absurd (let no : Done ≡ Specification = status in cc)
-  did (Broken file q) is status text = absurd (let no : Done ≡ Specification = status in cc)
-  did (NoMessage name k) is status text = absurd (let no : Done ≡ Specification = status in cc)
-  did (Checked x) is status text = checked is.0 is.1 is.2.asked_is
-  did (Rejected x) is status text = absurd (not_rejected (x.failed == 0) status)
-  did SourceFault is status text = absurd (let no : Done ≡ SourceStatus = status in cc)
-  did InputLimit is status text = absurd (let no : Done ≡ Limit = status in cc)
-  did (Input (Json json)) is status text = (let a = is.2 in decoded is.0 is.1 a.0 a.1 a.2 a.3 a.4 json.items a.6 text)
-  did (Input (Stuck reason name)) is status text = absurd (let no : Done ≡ InputRefused = status in cc)
-  did (Output (encoding.Bytes b)) is status text = (let a = is.2 in encodes is.0 is.1 a.0 a.1 a.2 a.3 a.4 (encoded.Bytes b) a.6 (sym text))
-  did (Output encoding.NotJson) is status text = absurd (let no : Done ≡ InputRefused = status in cc)
-  did (Output encoding.NotObject) is status text = absurd (let no : Done ≡ InputRefused = status in cc)
-  did (Output (encoding.UnknownField key)) is status text = absurd (let no : Done ≡ InputRefused = status in cc)
-  did (Output (encoding.BadValue key)) is status text = absurd (let no : Done ≡ InputRefused = status in cc)
-  did (Output (encoding.Duplicate key)) is status text = absurd (let no : Done ≡ InputRefused = status in cc)
-  did (Output (encoding.Unsatisfied name reason)) is status text = absurd (let no : Done ≡ InputRefused = status in cc)
-  did (Output (encoding.Unused name)) is status text = absurd (let no : Done ≡ InputRefused = status in cc)
-
-  did_of : (f : FaultCounts) → Outcome words texts input f Done written → Did words texts input written
-  did_of f o = did o.0 o.1 o.3.0 o.3.1
-
 some_same : (a b : Ask) → Some a ≡ Some b → a ≡ b
 some_same a b e = cc
 
-module _ (words : List (List ℕ)) (texts : Texts) (name message : List ℕ) where
-  -- the message that a command serves, and its request
-  record Serving : Type 0 where
-    request : Request
-    asks : Asks words texts request
-    name_is : request.ask.name ≡ name
-    message_is : message_asked request.ask.does ≡ Some message
-    spec : Specified
-    graph : Graph
-    serves : Serves request spec graph
+rejected_done : (b : Bool) → Done ≡ (if b then Undecided else NotAccepted) → ⊥
+rejected_done true e = cc
+rejected_done false e = cc
 
-  closure_of : (v : Serving) → IsClosure texts name v.request.asked v.request.trees
-  closure_of v = subst (λ (n : List ℕ). IsClosure texts n v.request.asked v.request.trees) v.name_is v.asks.closure
+-- the message of a name that a command serves, and its request
+record Serving (words : List (List ℕ)) (texts : Texts) (does : Does) (name message : List ℕ) : Type 0 where
+  request : Request
+  asks : Asks words texts request
+  name_is : request.ask.name ≡ name
+  does_is : request.ask.does ≡ does
+  messages : TypedMessages
+  means : Means request.asked request.trees messages
+  graph : Graph
+  serves : Serves messages request.ask.name request.ask.splits message graph
 
-  module _ (does : Does) (asked : AskThat words name does) (r : Request) (asks : Asks words texts r) where
-    ask_is : r.ask ≡ record { name = name; does = does; splits = asked.0 }
-    ask_is = some_same r.ask (record { name = name; does = does; splits = asked.0 }) (sym asks.words_are ∙ asked.1)
+module _ (texts : Texts) (first : List ℕ) where
+  walk_done : (a : Answer) → EndsAt texts first a → Done ≡ status_of a → ⊥
+  walk_done ShelfFault end status = cc
+  walk_done (NoPackage name) end status = cc
+  walk_done (TextLimit file) end status = cc
+  walk_done (Refused file refusal) end status = cc
+  walk_done PackageLimit end status = cc
+  walk_done other end status = absurd end
 
-    does_is : r.ask.does ≡ does
-    does_is = ap (λ (a : Ask). a.does) ask_is
+refused_done : (asked : List (List ℕ)) (trees : List PackageTree) (a : Answer) → IsRefusedFor asked trees a → Done ≡ status_of a → ⊥
+refused_done asked trees (Refused file refusal) is status = cc
+refused_done asked trees other is status = absurd is
 
-    abbrev serving : message_asked does ≡ Some message → (s : Specified) (m : Graph) → Serves r s m → Serving
-    serving is s m serves =
-        record { request = r; asks = asks; name_is = ap (λ (a : Ask). a.name) ask_is; message_is = ap message_asked does_is ∙ is; spec = s; graph = m; serves = serves }
+denied_done : (t : TypedMessages) (owner : List ℕ) (splits : ℕ) (name : List ℕ) (a : Answer) → IsDenied t owner splits name a → Done ≡ status_of a → ⊥
+denied_done t owner splits name (NoMessage home message) is status = cc
+denied_done t owner splits name (Rejected x) is status = rejected_done (x.failed == 0) status
+denied_done t owner splits name other is status = absurd is
 
-  module _ (input written : List ℕ) where
-    -- a command that encodes has encoded
-    record HasEncoded : Type 0 where
-      by : Serving
-      answer : Encoded
-      is : IsEncoded (domains_in by.spec) by.graph input answer
-      wrote : IsBuffer answer written
+-- of a message, the input was encoded as what was written
+record IsEncodedAs (domains : List Domain) (m : Graph) (input written : List ℕ) : Type 0 where
+  encoded_as : Encoded
+  is : IsEncoded domains m input encoded_as
+  wrote : IsBuffer encoded_as written
 
-    has_encoded : AskThat words name (Encodes message) → Did words texts input written → HasEncoded
-    has_encoded asked (checked r asks does) = absurd (let no : Checks ≡ Encodes message = sym does ∙ does_is (Encodes message) asked r asks in cc)
-    has_encoded asked (decoded r asks s m other serves does text is wrote) = absurd (let no : Decodes other ≡ Encodes message = sym does ∙ does_is (Encodes message) asked r asks in cc)
-    has_encoded asked (encodes r asks s m other serves does e is wrote) = record { by = serving (Encodes message) asked r asks refl s m serves; answer = e; is = is; wrote = wrote }
+-- of a message, the JSON of the input was written on a line
+record IsDecodedAs (domains : List Domain) (m : Graph) (input written : List ℕ) : Type 0 where
+  json : List ℕ
+  is : IsJson domains m input json
+  wrote : written ≡ line json
 
-    -- and one that decodes has decoded
-    record HasDecoded : Type 0 where
-      by : Serving
-      json : List ℕ
-      is : IsJson (domains_in by.spec) by.graph input json
-      wrote : written ≡ line json
+module _ (domains : List Domain) (m : Graph) (input written : List ℕ) where
+  bytes_done : (e : Encoded) (name : Option (List ℕ)) → IsEncoded domains m input e → Done ≡ status_of_encoded e → written ≡ encoded_text e name → IsEncodedAs domains m input written
+  bytes_done (encoded.Bytes b) name is status text = record { encoded_as = encoded.Bytes b; is = is; wrote = sym text }
+  bytes_done encoded.TooLong name is status text = absurd (let no : Done ≡ Limit = status in cc)
+  bytes_done other name is status text = absurd (let no : Done ≡ InputRefused = status in cc)
 
-    has_decoded : AskThat words name (Decodes message) → Did words texts input written → HasDecoded
-    has_decoded asked (checked r asks does) = absurd (let no : Checks ≡ Decodes message = sym does ∙ does_is (Decodes message) asked r asks in cc)
-    has_decoded asked (decoded r asks s m other serves does text is wrote) = record { by = serving (Decodes message) asked r asks refl s m serves; json = text; is = is; wrote = wrote }
-    has_decoded asked (encodes r asks s m other serves does e is wrote) = absurd (let no : Encodes other ≡ Decodes message = sym does ∙ does_is (Decodes message) asked r asks in cc)
+  written_done : (a : Answer) → IsWrittenAs domains m input a → Done ≡ status_of a → IsText a written → IsEncodedAs domains m input written
+  written_done SourceFault is status text = absurd (let no : Done ≡ SourceStatus = status in cc)
+  written_done InputLimit is status text = absurd (let no : Done ≡ Limit = status in cc)
+  written_done (answer.Encoded e name) is status text = bytes_done e name is.is status text
+  written_done other is status text = absurd is
+
+  read_done : (a : Answer) → IsReadAs domains m input a → Done ≡ status_of a → IsText a written → IsDecodedAs domains m input written
+  read_done SourceFault is status text = absurd (let no : Done ≡ SourceStatus = status in cc)
+  read_done InputLimit is status text = absurd (let no : Done ≡ Limit = status in cc)
+  read_done (answer.Decoded (decoded.Json json) name) is status text = record { json = json.items; is = is.is; wrote = text }
+  read_done (answer.Decoded (decoded.Refused stuck) name) is status text = absurd (let no : Done ≡ InputRefused = status in cc)
+  read_done other is status text = absurd is
+
+module _ (words : List (List ℕ)) (texts : Texts) (name message : List ℕ) (does : Does) (asked : AskThat words name does) where
+  ask_is : (r : Request) → Asks words texts r → r.ask ≡ record { name = name; does = does; splits = asked.0 }
+  ask_is r asks = some_same r.ask (record { name = name; does = does; splits = asked.0 }) (sym asks.words_are ∙ asked.1)
+
+  abbrev serving : (r : Request) (t : TypedMessages) (m : Graph) → Asks words texts r → Means r.asked r.trees t → Serves t r.ask.name r.ask.splits message m → Serving words texts does name message
+  serving r t m asks means serves =
+      let ask = ask_is r asks in
+      record { request = r; asks = asks; name_is = ap (λ (a : Ask). a.name) ask; does_is = ap (λ (a : Ask). a.does) ask; messages = t; means = means; graph = m; serves = serves }
+
+  module _ (input written : List ℕ) (Is : TypedMessages → Graph → Answer → Type 0) where
+    -- its message was served, and this was answered of it
+    record HasServed : Type 0 where
+      by : Serving words texts does name message
+      answered : Answer
+      is : Is by.messages by.graph answered
+      status : Done ≡ status_of answered
+      text : IsText answered written
+
+    -- a command of this kind that ended with Done has served its message
+    has_served : ((t : TypedMessages) (owner : List ℕ) (splits : ℕ) (a : Answer) → IsDone t owner splits does input a → IsAnswered t owner splits message (Is t) a) → (f : FaultCounts) → Outcome words texts input f Done written → HasServed
+    has_served answered f o = by_answer o.1
+      where
+        of_messages : (r : Request) (t : TypedMessages) → Asks words texts r → Means r.asked r.trees t → IsAnswered t r.ask.name r.ask.splits message (Is t) o.0 → HasServed
+        of_messages r t asks means (inl denied) = absurd (denied_done t r.ask.name r.ask.splits message o.0 denied o.3.0)
+        of_messages r t asks means (inr served) = record { by = serving r t served.0 asks means served.1; answered = o.0; is = served.2; status = o.3.0; text = o.3.1 }
+
+        by_answer : Answers words texts input o.0 → HasServed
+        by_answer (by_words no_form is) = absurd (let no : Done ≡ Words = o.3.0 ∙ ap status_of is in cc)
+        by_answer (by_walk ask formed end) = absurd (walk_done texts ask.name o.0 end o.3.0)
+        by_answer (by_refusal r asks refused) = absurd (refused_done r.asked r.trees o.0 refused o.3.0)
+        by_answer (by_messages r t asks means answers) =
+            let does_is = ap (λ (a : Ask). a.does) (ask_is r asks) in
+            of_messages r t asks means (answered t r.ask.name r.ask.splits o.0 (subst (λ (d : Does). IsDone t r.ask.name r.ask.splits d input o.0) does_is answers))
+
+module _ (words : List (List ℕ)) (texts : Texts) (name message input written : List ℕ) (f : FaultCounts) where
+  -- a command that encodes has encoded
+  record HasEncoded : Type 0 where
+    by : Serving words texts (Encodes message) name message
+    done : IsEncodedAs by.messages.domains by.graph input written
+
+  has_encoded : AskThat words name (Encodes message) → Outcome words texts input f Done written → HasEncoded
+  has_encoded asked o =
+      let served = has_served words texts name message (Encodes message) asked input written (λ t m. IsWrittenAs t.domains m input) (λ t owner splits a is. is) f o in
+      record { by = served.by; done = written_done served.by.messages.domains served.by.graph input written served.answered served.is served.status served.text }
+
+  -- and one that decodes has decoded
+  record HasDecoded : Type 0 where
+    by : Serving words texts (Decodes message) name message
+    done : IsDecodedAs by.messages.domains by.graph input written
+
+  has_decoded : AskThat words name (Decodes message) → Outcome words texts input f Done written → HasDecoded
+  has_decoded asked o =
+      let served = has_served words texts name message (Decodes message) asked input written (λ t m. IsReadAs t.domains m input) (λ t owner splits a is. is) f o in
+      record { by = served.by; done = read_done served.by.messages.domains served.by.graph input written served.answered served.is served.status served.text }
 
 -- ---- two commands
 
 module _ (one_tree : OneTree) (one_meaning : OneMeaning) (texts : Texts) where
   -- two commands that serve a message of one name serve the same message
-  module _ (words others : List (List ℕ)) (name message : List ℕ) (v : Serving words texts name message) (w : Serving others texts name message) where
+  module _ (words others : List (List ℕ)) (does other : Does) (name message : List ℕ) (v : Serving words texts does name message) (w : Serving others texts other name message) where
+    closure_of : (r : Request) (n : List ℕ) → r.ask.name ≡ n → IsClosure texts r.ask.name r.asked r.trees → IsClosure texts n r.asked r.trees
+    closure_of r n is closed = subst (λ (l : List ℕ). IsClosure texts l r.asked r.trees) is closed
+
     packages : HaveSame v.request w.request
-    packages = closures_same one_tree one_meaning texts name v.request w.request (closure_of words texts name message v) (closure_of others texts name message w)
+    packages = closures_same one_tree one_meaning texts name v.request w.request (closure_of v.request name v.name_is v.asks.closure) (closure_of w.request name w.name_is w.asks.closure)
 
-    found : Finds v.request w.spec w.graph
-    found = finds v.request w.request packages (v.name_is ∙ sym w.name_is) (v.message_is ∙ sym w.message_is) w.spec w.graph w.serves.finds
+    messages_same : v.messages ≡ w.messages
+    messages_same = meanings_same v.request w.request packages v.messages w.messages v.means w.means
 
-    specs_same : w.spec ≡ v.spec
-    specs_same = means_same v.request [] w.spec v.spec found.means v.serves.finds.means
+    found_same : (o p : Option Graph) (m n : Graph) → o ≡ p → o ≡ Some m → p ≡ Some n → m ≡ n
+    found_same o p m n e one two = cc
 
-    graphs_same : w.graph ≡ v.graph
-    graphs_same = graph_same v.request [] w.spec v.spec w.graph v.graph found v.serves.finds
+    graph_same : v.graph ≡ w.graph
+    graph_same =
+        let names : v.request.ask.name ≡ w.request.ask.name = v.name_is ∙ sym w.name_is in
+        let there = ap (λ (n : List ℕ). message_in n message v.messages.graphs) names ∙ ap (λ (t : TypedMessages). message_in w.request.ask.name message t.graphs) messages_same in
+        found_same (message_in v.request.ask.name message v.messages.graphs) (message_in w.request.ask.name message w.messages.graphs) v.graph w.graph there v.serves.found w.serves.found
 
-    json_same : (bytes text : List ℕ) → IsJson (domains_in w.spec) w.graph bytes text → IsJson (domains_in v.spec) v.graph bytes text
-    json_same bytes text j = subst (λ (s : Specified). IsJson (domains_in s) v.graph bytes text) specs_same (subst (λ (g : Graph). IsJson (domains_in w.spec) g bytes text) graphs_same j)
+    json_same : (bytes text : List ℕ) → IsJson w.messages.domains w.graph bytes text → IsJson v.messages.domains v.graph bytes text
+    json_same bytes text j =
+        let there = subst (λ (t : TypedMessages). IsJson t.domains w.graph bytes text) (sym messages_same) j in
+        subst (λ (g : Graph). IsJson v.messages.domains g bytes text) (sym graph_same) there
 
   module _ (encode decode : List (List ℕ)) (both : AskBoth encode decode) where
     encoded_and_decoded : (text bytes printed : List ℕ) (f g : FaultCounts) → Outcome encode texts text f Done bytes → Outcome decode texts bytes g Done printed → IsJsonOfText encode texts text printed
     encoded_and_decoded text bytes printed f g one two =
-        let x : HasEncoded encode texts both.name both.message text bytes = has_encoded encode texts both.name both.message text bytes both.encodes (did_of encode texts text bytes f one) in
-        let y : HasDecoded decode texts both.name both.message bytes printed = has_decoded decode texts both.name both.message bytes printed both.decodes (did_of decode texts bytes printed g two) in
+        let x : HasEncoded encode texts both.name both.message text bytes f = has_encoded encode texts both.name both.message text bytes f both.encodes one in
+        let y : HasDecoded decode texts both.name both.message bytes printed g = has_decoded decode texts both.name both.message bytes printed g both.decodes two in
         let v = x.by in
-        let j = json_same encode decode both.name both.message v y.by bytes y.json y.is in
-        let p = printed_of_encoded (domains_in v.spec) v.graph v.serves.sound v.serves.named text bytes y.json x.answer x.is x.wrote j in
-        record { request = v.request; asks = v.asks; spec = v.spec; graph = v.graph; serves = v.serves; values = p.values; valued = p.valued; printed_is = y.wrote ∙ ap line p.printed_is }
+        let j = json_same encode decode (Encodes both.message) (Decodes both.message) both.name both.message v y.by bytes y.done.json y.done.is in
+        let p = printed_of_encoded v.messages.domains v.graph v.serves.sound v.serves.named text bytes y.done.json x.done.encoded_as x.done.is x.done.wrote j in
+        record {
+          request = v.request;
+          asks = v.asks;
+          messages = v.messages;
+          means = v.means;
+          name = both.message;
+          asked_is = v.does_is;
+          graph = v.graph;
+          serves = v.serves;
+          values = p.values;
+          valued = p.valued;
+          printed_is = y.done.wrote ∙ ap line p.printed_is;
+        }
 
     decoded_and_encoded : (bytes printed written : List ℕ) (f g : FaultCounts) → AreBytes bytes → Outcome decode texts bytes f Done printed → Outcome encode texts printed g Done written → written ≡ bytes
     decoded_and_encoded bytes printed written f g are one two =
-        let x : HasEncoded encode texts both.name both.message printed written = has_encoded encode texts both.name both.message printed written both.encodes (did_of encode texts printed written g two) in
-        let y : HasDecoded decode texts both.name both.message bytes printed = has_decoded decode texts both.name both.message bytes printed both.decodes (did_of decode texts bytes printed f one) in
+        let x : HasEncoded encode texts both.name both.message printed written g = has_encoded encode texts both.name both.message printed written g both.encodes two in
+        let y : HasDecoded decode texts both.name both.message bytes printed f = has_decoded decode texts both.name both.message bytes printed f both.decodes one in
         let v = x.by in
-        let j = json_same encode decode both.name both.message v y.by bytes y.json y.is in
-        let of_line = subst (λ (t : List ℕ). IsEncoded (domains_in v.spec) v.graph t x.answer) y.wrote x.is in
-        encoded_of_printed (domains_in v.spec) v.graph v.serves.sound v.serves.named bytes y.json written x.answer are j of_line x.wrote
+        let j = json_same encode decode (Encodes both.message) (Decodes both.message) both.name both.message v y.by bytes y.done.json y.done.is in
+        let of_line = subst (λ (t : List ℕ). IsEncoded v.messages.domains v.graph t x.done.encoded_as) y.done.wrote x.done.is in
+        encoded_of_printed v.messages.domains v.graph v.serves.sound v.serves.named bytes y.done.json written x.done.encoded_as are j of_line x.done.wrote
 
 pub encoded_is_decoded : OneTree → OneMeaning → EncodedIsDecoded
 encoded_is_decoded one_tree one_meaning encode decode texts text bytes printed f g both = encoded_and_decoded one_tree one_meaning texts encode decode both text bytes printed f g

@@ -8,7 +8,7 @@ use Rattle.rx_io.specs.Shelf.{Texts}
 use Rattle.rx_types.specs.Domain.{Domain}
 use Rattle.rx_forms.specs.PathLimit.{MayBeChecked}
 use Rattle.rx_graph.specs.Elaborated.{IsElaborated}
-use Rattle.rx_graph.specs.Graph.{Graph, Specified}
+use Rattle.rx_graph.specs.Graph.{Graph}
 use Rattle.rx_spec.specs.Laws.{IsSoundSpec, domains_in}
 use Rattle.rx_spec.proofs.Elaborating.{elaboration_is_sound}
 use Rattle.rx_report.specs.declared.reported.Reported.{Reported}
@@ -16,17 +16,25 @@ use Rattle.rx_report.specs.Reported.{messages_of, IsReported, HasOpen}
 use Rattle.rx_checks.specs.Laws.{HasBrokenCheck, HasLongWalk}
 use Rattle.rx_report.specs.Laws.{AnyOf, AreElaborated, AreSound, CountsTellSoundness}
 use Rattle.rx_report.proofs.Soundness.{tell_soundness}
-use Rattle.rx_program.specs.Words.{Checks}
-use Rattle.rx_program.specs.Request.{Request, Means, Finds, Serves, ReportsAll, ReportsOne}
-use Rattle.rx_program.specs.Answers.{Asks, Answers}
-use Rattle.rx_program.specs.Outcome.{status_of, status_of_report, status_of_rejected}
-use Rattle.rx_program.specs.Soundness.{AreChecked, ChecksThat, DoneShowsSoundness, NotAcceptedShowsFault, UndecidedShowsWalk}
-use Rattle.rx_program.specs.declared.status.Status.TheVariants.{Done, NotAccepted, Words, Specification, Undecided, InputRefused, Limit}
-use Rattle.rx_program.specs.declared.status.Status.TheVariants.{SourceFault as SourceStatus, ShelfFault as ShelfStatus}
-use Rattle.rx_program.specs.declared.answer.Decoding.TheVariants.{Json, Stuck}
-use Rattle.rx_program.specs.declared.answer.Encoding.TheVariants as encoding
+use Rattle.rx_syntax.specs.declared.tree.PackageTree.{PackageTree}
+use Rattle.rx_forms.specs.Checkable.{TypedMessages}
+use Rattle.rx_decode.specs.declared.decoding.Decoded.{Decoded}
+use Rattle.rx_decode.specs.declared.decoding.Decoded.TheVariants as decoded
+use Rattle.rx_encode.specs.declared.encoding.Encoded.{Encoded}
+use Rattle.rx_encode.specs.declared.encoding.Encoded.TheVariants as encoded
+use Rattle.rx_program.specs.Words.{Does, Checks, Decodes, Encodes}
+use Rattle.rx_program.specs.Operand.{message_in}
+use Rattle.rx_program.specs.Input.{IsReadAs, IsWrittenAs}
+use Rattle.rx_program.specs.Refusals.{IsRefusedFor, Means}
+use Rattle.rx_program.specs.Request.{IsAll, IsDenied, IsAnswered, IsDone, AnswersTo}
+use Rattle.rx_program.specs.Answers.{EndsAt, Request, Asks, Answers, by_words, by_walk, by_refusal, by_messages}
+use Rattle.rx_program.specs.Outcome.{status_of, status_of_decoded, status_of_encoded}
+use Rattle.rx_program.specs.Soundness.{IsAlone, AreChecked, ChecksThat, DoneShowsSoundness, NotAcceptedShowsFault, UndecidedShowsWalk}
+use Rattle.rx_program.specs.declared.status.Status.{Status}
+use Rattle.rx_program.specs.declared.status.Status.TheVariants.{Done, NotAccepted, Undecided, Specification}
 use Rattle.rx_program.specs.declared.answer.Answer.{Answer}
-use Rattle.rx_program.specs.declared.answer.Answer.TheVariants.{Usage, ShelfFault, NoPackage, TextLimit, Refused, PackageLimit, Unserved, Broken, NoMessage, Checked, Rejected, SourceFault, InputLimit, Input, Output}
+use Rattle.rx_program.specs.declared.answer.Answer.TheVariants.{Usage, ShelfFault, NoPackage, TextLimit, Refused, PackageLimit, NoMessage, Checked, Rejected, SourceFault, InputLimit}
+use Rattle.rx_program.specs.declared.answer.Answer.TheVariants as answer
 use Rattle.rx_program.proofs.OperandLemmas.{found_has, first_same}
 
 -- ---- counts by statuses
@@ -83,147 +91,197 @@ elaborated_all : (domains : List Domain) (ms : List Graph) → AllByRecursion (M
 elaborated_all domains [] all = tt
 elaborated_all domains (m ∷ ms) all = (all.0.elaborated, elaborated_all domains ms all.1)
 
-module _ (r : Request) (s : Specified) (means : Means r s) where
-  sound_spec : IsSoundSpec s
-  sound_spec = elaboration_is_sound r.asked r.trees s means.meaning
+module _ (asked : List (List ℕ)) (trees : List PackageTree) (t : TypedMessages) (means : Means asked trees t) where
+  sound_spec : IsSoundSpec means.spec
+  sound_spec = elaboration_is_sound asked trees means.spec means.meaning
 
-  told : CountsTellSoundness (domains_in s)
-  told = tell_soundness (domains_in s) (first_same (domains_in s) sound_spec.boolean)
+  told : CountsTellSoundness t.domains
+  told = subst CountsTellSoundness (sym means.types) (tell_soundness (domains_in means.spec) (first_same (domains_in means.spec) sound_spec.boolean))
 
-  all_elaborated : AreElaborated (domains_in s) (messages_of r.ask.name s.messages)
-  all_elaborated = elaborated_all (domains_in s) (messages_of r.ask.name s.messages) (filtered (MayBeChecked (domains_in s)) (λ m. str_eq_ignore_ascii_case m.«package» r.ask.name) s.messages sound_spec.messages)
+  may_be_checked : AllByRecursion (MayBeChecked t.domains) t.graphs
+  may_be_checked =
+      let there = subst (λ (ms : List Graph). AllByRecursion (MayBeChecked (domains_in means.spec)) ms) (sym means.messages) sound_spec.messages in
+      subst (λ (ds : List Domain). AllByRecursion (MayBeChecked ds) t.graphs) (sym means.types) there
 
-  one_elaborated : (m : Graph) → Finds r s m → AreElaborated (domains_in s) (m ∷ [])
-  one_elaborated m finds = ((found_has (MayBeChecked (domains_in s)) r.ask.name finds.name s.messages m sound_spec.messages finds.found).elaborated, tt)
+  all_elaborated : (owner : List ℕ) → AreElaborated t.domains (messages_of owner t.graphs)
+  all_elaborated owner = elaborated_all t.domains (messages_of owner t.graphs) (filtered (MayBeChecked t.domains) (λ m. str_eq_ignore_ascii_case m.«package» owner) t.graphs may_be_checked)
+
+  one_elaborated : (owner name : List ℕ) (m : Graph) → message_in owner name t.graphs ≡ Some m → AreElaborated t.domains (m ∷ [])
+  one_elaborated owner name m found = ((found_has (MayBeChecked t.domains) owner name t.graphs m may_be_checked found).elaborated, tt)
 
 -- ---- answers
 
-module _ (words : List (List ℕ)) (texts : Texts) where
-  abbrev Shows : (List Domain → ℕ → List Graph → Type 0) → Type 0
-  Shows P = ChecksThat words texts P
+-- the statuses of reports
+abbrev is_verdict : Status → Bool
+is_verdict Done = true
+is_verdict NotAccepted = true
+is_verdict Undecided = true
+is_verdict s = false
 
-  of_all : (P : List Domain → ℕ → List Graph → Type 0) (r : Request) (x : Reported) → Asks words texts r → (all : ReportsAll r x) → P (domains_in all.spec) r.ask.splits (messages_of r.ask.name all.spec.messages) → Shows P
-  of_all P r x asks all so =
-      record { request = r; asks = asks; spec = all.spec; means = all.means; messages = messages_of r.ask.name all.spec.messages; checked = inl (all.asked_is, refl); so = so }
+-- the statuses of reports with an open check
+abbrev is_open : Status → Bool
+is_open NotAccepted = true
+is_open Undecided = true
+is_open s = false
 
-  of_one : (P : List Domain → ℕ → List Graph → Type 0) (r : Request) (s : Specified) (m : Graph) → Asks words texts r → Finds r s m → P (domains_in s) r.ask.splits (m ∷ []) → Shows P
-  of_one P r s m asks finds so = record { request = r; asks = asks; spec = s; means = finds.means; messages = m ∷ []; checked = inr (m, finds, refl); so = so }
+walk_verdict : (texts : Texts) (first : List ℕ) (a : Answer) → EndsAt texts first a → is_verdict (status_of a) ≡ false
+walk_verdict texts first ShelfFault end = refl
+walk_verdict texts first (NoPackage name) end = refl
+walk_verdict texts first (TextLimit file) end = refl
+walk_verdict texts first (Refused file refusal) end = refl
+walk_verdict texts first PackageLimit end = refl
+walk_verdict texts first other end = absurd end
 
-  served : (r : Request) (s : Specified) (m : Graph) → Asks words texts r → Serves r s m → Shows (λ domains splits ms. AreSound domains ms)
-  served r s m asks serves = of_one (λ domains splits ms. AreSound domains ms) r s m asks serves.finds (serves.sound, tt)
+refused_verdict : (asked : List (List ℕ)) (trees : List PackageTree) (a : Answer) → IsRefusedFor asked trees a → is_verdict (status_of a) ≡ false
+refused_verdict asked trees (Refused file refusal) is = refl
+refused_verdict asked trees other is = absurd is
 
-  all_done : (r : Request) (x : Reported) → Asks words texts r → ReportsAll r x → Done ≡ status_of_report x → Shows (λ domains splits ms. AreSound domains ms)
-  all_done r x asks all status =
-      let ms = messages_of r.ask.name all.spec.messages in
-      let none = done_by (x.failed == 0) (x.undecided == 0) status in
-      of_all (λ domains splits ms. AreSound domains ms) r x asks all
-      ((told r all.spec all.means).sound r.ask.splits ms x (all_elaborated r all.spec all.means) all.reported_is (is_none x.failed none.0) (is_none x.undecided none.1))
+decoded_open : (d : Decoded) → is_open (status_of_decoded d) ≡ false
+decoded_open (decoded.Json text) = refl
+decoded_open (decoded.Refused stuck) = refl
 
-  all_failed : (r : Request) (x : Reported) → Asks words texts r → ReportsAll r x → NotAccepted ≡ status_of_report x → Shows (λ domains splits ms. AnyOf (λ m. HasBrokenCheck domains m) ms)
-  all_failed r x asks all status =
-      let ms = messages_of r.ask.name all.spec.messages in
-      of_all (λ domains splits ms. AnyOf (λ m. HasBrokenCheck domains m) ms) r x asks all
-      ((told r all.spec all.means).broken r.ask.splits ms x (all_elaborated r all.spec all.means) all.reported_is (is_some x.failed (failed_by (x.failed == 0) (x.undecided == 0) status)))
+encoded_open : (e : Encoded) → is_open (status_of_encoded e) ≡ false
+encoded_open (encoded.Bytes bytes) = refl
+encoded_open other = refl
 
-  all_undecided : (r : Request) (x : Reported) → Asks words texts r → ReportsAll r x → Undecided ≡ status_of_report x → Shows (λ domains splits ms. AnyOf (λ m. HasLongWalk domains m splits) ms)
-  all_undecided r x asks all status =
-      let ms = messages_of r.ask.name all.spec.messages in
-      of_all (λ domains splits ms. AnyOf (λ m. HasLongWalk domains m splits) ms) r x asks all
-      ((told r all.spec all.means).long r.ask.splits ms x (all_elaborated r all.spec all.means) all.reported_is (is_some x.undecided (undecided_by (x.failed == 0) (x.undecided == 0) status)))
+read_open : (domains : List Domain) (m : Graph) (input : List ℕ) (a : Answer) → IsReadAs domains m input a → is_open (status_of a) ≡ false
+read_open domains m input SourceFault is = refl
+read_open domains m input InputLimit is = refl
+read_open domains m input (answer.Decoded d name) is = decoded_open d
+read_open domains m input other is = absurd is
 
-  one_failed : (r : Request) (x : Reported) → Asks words texts r → ReportsOne r x → NotAccepted ≡ status_of_rejected x → Shows (λ domains splits ms. AnyOf (λ m. HasBrokenCheck domains m) ms)
-  one_failed r x asks one status =
-      let means = one.finds.means in
-      of_one (λ domains splits ms. AnyOf (λ m. HasBrokenCheck domains m) ms) r one.spec one.graph asks one.finds
-      ((told r one.spec means).broken r.ask.splits (one.graph ∷ []) x (one_elaborated r one.spec means one.graph one.finds) one.reported_is (is_some x.failed (rejected_by (x.failed == 0) status)))
+written_open : (domains : List Domain) (m : Graph) (input : List ℕ) (a : Answer) → IsWrittenAs domains m input a → is_open (status_of a) ≡ false
+written_open domains m input SourceFault is = refl
+written_open domains m input InputLimit is = refl
+written_open domains m input (answer.Encoded e name) is = encoded_open e
+written_open domains m input other is = absurd is
 
-  one_undecided : (r : Request) (x : Reported) → Asks words texts r → ReportsOne r x → Undecided ≡ status_of_rejected x → Shows (λ domains splits ms. AnyOf (λ m. HasLongWalk domains m splits) ms)
-  one_undecided r x asks one status =
-      let means = one.finds.means in
-      of_one (λ domains splits ms. AnyOf (λ m. HasLongWalk domains m splits) ms) r one.spec one.graph asks one.finds
-      ((told r one.spec means).long r.ask.splits (one.graph ∷ []) x (one_elaborated r one.spec means one.graph one.finds) one.reported_is (open_undecided x (is_none x.failed (left_open (x.failed == 0) status)) one.not_passed))
+not_as : (f : Status → Bool) (s : Status) (a : Answer) → s ≡ status_of a → f s ≡ true → f (status_of a) ≡ false → ⊥
+not_as f s a same one two = (let no : true ≡ false = sym one ∙ ap f same ∙ two in cc)
 
-  module _ (input : List ℕ) where
-    done : (a : Answer) → Answers words texts input a → Done ≡ status_of a → Shows (λ domains splits ms. AreSound domains ms)
-    done Usage is status = absurd (let no : Done ≡ Words = status in cc)
-    done ShelfFault is status = absurd (let no : Done ≡ ShelfStatus = status in cc)
-    done (NoPackage name) is status = absurd (let no : Done ≡ Specification = status in cc)
-    done (TextLimit file) is status = absurd (let no : Done ≡ Limit = status in cc)
-    done (Refused file x) is status = absurd (let no : Done ≡ Specification = status in cc)
-    done PackageLimit is status = absurd (let no : Done ≡ Limit = status in cc)
-    done (Unserved file u) is status = absurd (let no : Done ≡ Specification = status in cc)
-    done (Broken file q) is status = absurd (let no : Done ≡ Specification = status in cc)
-    done (NoMessage name k) is status = absurd (let no : Done ≡ Specification = status in cc)
-    done (Checked x) is status = all_done is.0 x is.1 is.2 status
-    done (Rejected x) is status = absurd (not_done (x.failed == 0) status)
-    done SourceFault is status = absurd (let no : Done ≡ SourceStatus = status in cc)
-    done InputLimit is status = absurd (let no : Done ≡ Limit = status in cc)
-    done (Input (Json json)) is status = (let a = is.2 in served is.0 a.0 a.1 is.1 a.3)
-    done (Input (Stuck reason name)) is status = absurd (let no : Done ≡ InputRefused = status in cc)
-    done (Output (encoding.Bytes b)) is status = (let a = is.2 in served is.0 a.0 a.1 is.1 a.3)
-    done (Output encoding.NotJson) is status = absurd (let no : Done ≡ InputRefused = status in cc)
-    done (Output encoding.NotObject) is status = absurd (let no : Done ≡ InputRefused = status in cc)
-    done (Output (encoding.UnknownField key)) is status = absurd (let no : Done ≡ InputRefused = status in cc)
-    done (Output (encoding.BadValue key)) is status = absurd (let no : Done ≡ InputRefused = status in cc)
-    done (Output (encoding.Duplicate key)) is status = absurd (let no : Done ≡ InputRefused = status in cc)
-    done (Output (encoding.Unsatisfied name reason)) is status = absurd (let no : Done ≡ InputRefused = status in cc)
-    done (Output (encoding.Unused name)) is status = absurd (let no : Done ≡ InputRefused = status in cc)
+module _ (words : List (List ℕ)) (texts : Texts) (P : List Domain → ℕ → List Graph → Type 0) where
+  -- what is so of the messages that a request checks
+  shown : (r : Request) (t : TypedMessages) (ms : List Graph) → Asks words texts r → Means r.asked r.trees t → AreChecked t r.ask.name r.ask.does ms → P t.domains r.ask.splits ms → ChecksThat words texts P
+  shown r t ms asks means checked so = record { request = r; asks = asks; all = t; means = means; messages = ms; checked = checked; so = so }
 
-    not_accepted : (a : Answer) → Answers words texts input a → NotAccepted ≡ status_of a → Shows (λ domains splits ms. AnyOf (λ m. HasBrokenCheck domains m) ms)
-    not_accepted Usage is status = absurd (let no : NotAccepted ≡ Words = status in cc)
-    not_accepted ShelfFault is status = absurd (let no : NotAccepted ≡ ShelfStatus = status in cc)
-    not_accepted (NoPackage name) is status = absurd (let no : NotAccepted ≡ Specification = status in cc)
-    not_accepted (TextLimit file) is status = absurd (let no : NotAccepted ≡ Limit = status in cc)
-    not_accepted (Refused file x) is status = absurd (let no : NotAccepted ≡ Specification = status in cc)
-    not_accepted PackageLimit is status = absurd (let no : NotAccepted ≡ Limit = status in cc)
-    not_accepted (Unserved file u) is status = absurd (let no : NotAccepted ≡ Specification = status in cc)
-    not_accepted (Broken file q) is status = absurd (let no : NotAccepted ≡ Specification = status in cc)
-    not_accepted (NoMessage name k) is status = absurd (let no : NotAccepted ≡ Specification = status in cc)
-    not_accepted (Checked x) is status = all_failed is.0 x is.1 is.2 status
-    not_accepted (Rejected x) is status = one_failed is.0 x is.1 is.2 status
-    not_accepted SourceFault is status = absurd (let no : NotAccepted ≡ SourceStatus = status in cc)
-    not_accepted InputLimit is status = absurd (let no : NotAccepted ≡ Limit = status in cc)
-    not_accepted (Input (Json json)) is status = absurd (let no : NotAccepted ≡ Done = status in cc)
-    not_accepted (Input (Stuck reason name)) is status = absurd (let no : NotAccepted ≡ InputRefused = status in cc)
-    not_accepted (Output (encoding.Bytes b)) is status = absurd (let no : NotAccepted ≡ Done = status in cc)
-    not_accepted (Output encoding.NotJson) is status = absurd (let no : NotAccepted ≡ InputRefused = status in cc)
-    not_accepted (Output encoding.NotObject) is status = absurd (let no : NotAccepted ≡ InputRefused = status in cc)
-    not_accepted (Output (encoding.UnknownField key)) is status = absurd (let no : NotAccepted ≡ InputRefused = status in cc)
-    not_accepted (Output (encoding.BadValue key)) is status = absurd (let no : NotAccepted ≡ InputRefused = status in cc)
-    not_accepted (Output (encoding.Duplicate key)) is status = absurd (let no : NotAccepted ≡ InputRefused = status in cc)
-    not_accepted (Output (encoding.Unsatisfied name reason)) is status = absurd (let no : NotAccepted ≡ InputRefused = status in cc)
-    not_accepted (Output (encoding.Unused name)) is status = absurd (let no : NotAccepted ≡ InputRefused = status in cc)
+  module _ (s : Status) (verdict : is_verdict s ≡ true) (input : List ℕ) where
+    -- a status of reports comes from messages
+    of_messages : (a : Answer) → s ≡ status_of a → Answers words texts input a → ((r : Request) (t : TypedMessages) → Asks words texts r → Means r.asked r.trees t → AnswersTo r.ask t input a → ChecksThat words texts P) → ChecksThat words texts P
+    of_messages a same (by_words none is) by_them = absurd (not_as is_verdict s Usage (same ∙ ap status_of is) verdict refl)
+    of_messages a same (by_walk ask formed end) by_them = absurd (not_as is_verdict s a same verdict (walk_verdict texts ask.name a end))
+    of_messages a same (by_refusal r asks refused) by_them = absurd (not_as is_verdict s a same verdict (refused_verdict r.asked r.trees a refused))
+    of_messages a same (by_messages r t asks means answers) by_them = by_them r t asks means answers
 
-    undecided : (a : Answer) → Answers words texts input a → Undecided ≡ status_of a → Shows (λ domains splits ms. AnyOf (λ m. HasLongWalk domains m splits) ms)
-    undecided Usage is status = absurd (let no : Undecided ≡ Words = status in cc)
-    undecided ShelfFault is status = absurd (let no : Undecided ≡ ShelfStatus = status in cc)
-    undecided (NoPackage name) is status = absurd (let no : Undecided ≡ Specification = status in cc)
-    undecided (TextLimit file) is status = absurd (let no : Undecided ≡ Limit = status in cc)
-    undecided (Refused file x) is status = absurd (let no : Undecided ≡ Specification = status in cc)
-    undecided PackageLimit is status = absurd (let no : Undecided ≡ Limit = status in cc)
-    undecided (Unserved file u) is status = absurd (let no : Undecided ≡ Specification = status in cc)
-    undecided (Broken file q) is status = absurd (let no : Undecided ≡ Specification = status in cc)
-    undecided (NoMessage name k) is status = absurd (let no : Undecided ≡ Specification = status in cc)
-    undecided (Checked x) is status = all_undecided is.0 x is.1 is.2 status
-    undecided (Rejected x) is status = one_undecided is.0 x is.1 is.2 status
-    undecided SourceFault is status = absurd (let no : Undecided ≡ SourceStatus = status in cc)
-    undecided InputLimit is status = absurd (let no : Undecided ≡ Limit = status in cc)
-    undecided (Input (Json json)) is status = absurd (let no : Undecided ≡ Done = status in cc)
-    undecided (Input (Stuck reason name)) is status = absurd (let no : Undecided ≡ InputRefused = status in cc)
-    undecided (Output (encoding.Bytes b)) is status = absurd (let no : Undecided ≡ Done = status in cc)
-    undecided (Output encoding.NotJson) is status = absurd (let no : Undecided ≡ InputRefused = status in cc)
-    undecided (Output encoding.NotObject) is status = absurd (let no : Undecided ≡ InputRefused = status in cc)
-    undecided (Output (encoding.UnknownField key)) is status = absurd (let no : Undecided ≡ InputRefused = status in cc)
-    undecided (Output (encoding.BadValue key)) is status = absurd (let no : Undecided ≡ InputRefused = status in cc)
-    undecided (Output (encoding.Duplicate key)) is status = absurd (let no : Undecided ≡ InputRefused = status in cc)
-    undecided (Output (encoding.Unsatisfied name reason)) is status = absurd (let no : Undecided ≡ InputRefused = status in cc)
-    undecided (Output (encoding.Unused name)) is status = absurd (let no : Undecided ≡ InputRefused = status in cc)
+-- ---- each status, of one command
+
+abbrev Sound : List Domain → ℕ → List Graph → Type 0
+Sound domains splits ms = AreSound domains ms
+
+abbrev Broken : List Domain → ℕ → List Graph → Type 0
+Broken domains splits ms = AnyOf (λ m. HasBrokenCheck domains m) ms
+
+abbrev Long : List Domain → ℕ → List Graph → Type 0
+Long domains splits ms = AnyOf (λ m. HasLongWalk domains m splits) ms
+
+module _ (t : TypedMessages) (owner : List ℕ) (splits : ℕ) (told_of : CountsTellSoundness t.domains) where
+  -- messages that are checked by a command, which are so
+  abbrev CheckedThat : (List Domain → ℕ → List Graph → Type 0) → Does → Type 0
+  CheckedThat P d = (ms : List Graph) × AreChecked t owner d ms × P t.domains splits ms
+
+  module _ (elaborated : AreElaborated t.domains (messages_of owner t.graphs)) where
+    all_done : (a : Answer) → Done ≡ status_of a → IsAll t owner splits a → CheckedThat Sound Checks
+    all_done (Checked x) status is =
+        let none = done_by (x.failed == 0) (x.undecided == 0) status in
+        (messages_of owner t.graphs, refl, told_of.sound splits (messages_of owner t.graphs) x elaborated is (is_none x.failed none.0) (is_none x.undecided none.1))
+    all_done other status is = absurd is
+
+    all_failed : (a : Answer) → NotAccepted ≡ status_of a → IsAll t owner splits a → CheckedThat Broken Checks
+    all_failed (Checked x) status is =
+        (messages_of owner t.graphs, refl, told_of.broken splits (messages_of owner t.graphs) x elaborated is (is_some x.failed (failed_by (x.failed == 0) (x.undecided == 0) status)))
+    all_failed other status is = absurd is
+
+    all_undecided : (a : Answer) → Undecided ≡ status_of a → IsAll t owner splits a → CheckedThat Long Checks
+    all_undecided (Checked x) status is =
+        (messages_of owner t.graphs, refl, told_of.long splits (messages_of owner t.graphs) x elaborated is (is_some x.undecided (undecided_by (x.failed == 0) (x.undecided == 0) status)))
+    all_undecided other status is = absurd is
+
+  module _ (name : List ℕ) (one_elaborated_of : (m : Graph) → message_in owner name t.graphs ≡ Some m → AreElaborated t.domains (m ∷ [])) where
+    abbrev Alone : (List Domain → ℕ → List Graph → Type 0) → Type 0
+    Alone P = (ms : List Graph) × IsAlone t owner name ms × P t.domains splits ms
+
+    denied_done : (a : Answer) → Done ≡ status_of a → IsDenied t owner splits name a → ⊥
+    denied_done (NoMessage home message) status is = (let no : Done ≡ Specification = status in cc)
+    denied_done (Rejected x) status is = not_done (x.failed == 0) status
+    denied_done other status is = absurd is
+
+    denied_failed : (a : Answer) → NotAccepted ≡ status_of a → IsDenied t owner splits name a → Alone Broken
+    denied_failed (Rejected x) status is =
+        (is.graph ∷ [], (is.graph, is.found, refl), told_of.broken splits (is.graph ∷ []) x (one_elaborated_of is.graph is.found) is.reported_is (is_some x.failed (rejected_by (x.failed == 0) status)))
+    denied_failed (NoMessage home message) status is = absurd (let no : NotAccepted ≡ Specification = status in cc)
+    denied_failed other status is = absurd is
+
+    denied_undecided : (a : Answer) → Undecided ≡ status_of a → IsDenied t owner splits name a → Alone Long
+    denied_undecided (Rejected x) status is =
+        (is.graph ∷ [], (is.graph, is.found, refl), told_of.long splits (is.graph ∷ []) x (one_elaborated_of is.graph is.found) is.reported_is (open_undecided x (is_none x.failed (left_open (x.failed == 0) status)) is.not_passed))
+    denied_undecided (NoMessage home message) status is = absurd (let no : Undecided ≡ Specification = status in cc)
+    denied_undecided other status is = absurd is
+
+    -- a message that is served is sound, and its answer has no status of an open check
+    answered_done : (Is : Graph → Answer → Type 0) (a : Answer) → Done ≡ status_of a → IsAnswered t owner splits name Is a → Alone Sound
+    answered_done Is a status (inl denied) = absurd (denied_done a status denied)
+    answered_done Is a status (inr served) = (served.0 ∷ [], (served.0, served.1.found, refl), (served.1.sound, tt))
+
+    answered_failed : (Is : Graph → Answer → Type 0) → ((m : Graph) (a : Answer) → Is m a → is_open (status_of a) ≡ false) → (a : Answer) → NotAccepted ≡ status_of a → IsAnswered t owner splits name Is a → Alone Broken
+    answered_failed Is late a status (inl denied) = denied_failed a status denied
+    answered_failed Is late a status (inr served) = absurd (not_as is_open NotAccepted a status refl (late served.0 a served.2))
+
+    answered_undecided : (Is : Graph → Answer → Type 0) → ((m : Graph) (a : Answer) → Is m a → is_open (status_of a) ≡ false) → (a : Answer) → Undecided ≡ status_of a → IsAnswered t owner splits name Is a → Alone Long
+    answered_undecided Is late a status (inl denied) = denied_undecided a status denied
+    answered_undecided Is late a status (inr served) = absurd (not_as is_open Undecided a status refl (late served.0 a served.2))
+
+module _ (t : TypedMessages) (owner : List ℕ) (splits : ℕ) (told_of : CountsTellSoundness t.domains) (elaborated : AreElaborated t.domains (messages_of owner t.graphs)) (each : (name : List ℕ) (m : Graph) → message_in owner name t.graphs ≡ Some m → AreElaborated t.domains (m ∷ [])) (input : List ℕ) (a : Answer) where
+  abbrev That : (List Domain → ℕ → List Graph → Type 0) → Does → Type 0
+  That P d = CheckedThat t owner splits told_of P d
+
+  done_by_does : (d : Does) → Done ≡ status_of a → IsDone t owner splits d input a → That Sound d
+  done_by_does Checks status is = all_done t owner splits told_of elaborated a status is
+  done_by_does (Decodes name) status is = answered_done t owner splits told_of name (each name) (λ m. IsReadAs t.domains m input) a status is
+  done_by_does (Encodes name) status is = answered_done t owner splits told_of name (each name) (λ m. IsWrittenAs t.domains m input) a status is
+
+  failed_by_does : (d : Does) → NotAccepted ≡ status_of a → IsDone t owner splits d input a → That Broken d
+  failed_by_does Checks status is = all_failed t owner splits told_of elaborated a status is
+  failed_by_does (Decodes name) status is = answered_failed t owner splits told_of name (each name) (λ m. IsReadAs t.domains m input) (λ m x read. read_open t.domains m input x read) a status is
+  failed_by_does (Encodes name) status is = answered_failed t owner splits told_of name (each name) (λ m. IsWrittenAs t.domains m input) (λ m x read. written_open t.domains m input x read) a status is
+
+  undecided_by_does : (d : Does) → Undecided ≡ status_of a → IsDone t owner splits d input a → That Long d
+  undecided_by_does Checks status is = all_undecided t owner splits told_of elaborated a status is
+  undecided_by_does (Decodes name) status is = answered_undecided t owner splits told_of name (each name) (λ m. IsReadAs t.domains m input) (λ m x read. read_open t.domains m input x read) a status is
+  undecided_by_does (Encodes name) status is = answered_undecided t owner splits told_of name (each name) (λ m. IsWrittenAs t.domains m input) (λ m x read. written_open t.domains m input x read) a status is
+
+module _ (words : List (List ℕ)) (texts : Texts) (input : List ℕ) (a : Answer) (r : Request) (t : TypedMessages) (asks : Asks words texts r) (means : Means r.asked r.trees t) where
+  so_told : CountsTellSoundness t.domains
+  so_told = told r.asked r.trees t means
+
+  so_all : AreElaborated t.domains (messages_of r.ask.name t.graphs)
+  so_all = all_elaborated r.asked r.trees t means r.ask.name
+
+  so_each : (name : List ℕ) (m : Graph) → message_in r.ask.name name t.graphs ≡ Some m → AreElaborated t.domains (m ∷ [])
+  so_each = one_elaborated r.asked r.trees t means r.ask.name
+
+  done : Done ≡ status_of a → AnswersTo r.ask t input a → ChecksThat words texts Sound
+  done status is = (let found = done_by_does t r.ask.name r.ask.splits so_told so_all so_each input a r.ask.does status is in shown words texts Sound r t found.0 asks means found.1 found.2)
+
+  not_accepted : NotAccepted ≡ status_of a → AnswersTo r.ask t input a → ChecksThat words texts Broken
+  not_accepted status is = (let found = failed_by_does t r.ask.name r.ask.splits so_told so_all so_each input a r.ask.does status is in shown words texts Broken r t found.0 asks means found.1 found.2)
+
+  undecided : Undecided ≡ status_of a → AnswersTo r.ask t input a → ChecksThat words texts Long
+  undecided status is = (let found = undecided_by_does t r.ask.name r.ask.splits so_told so_all so_each input a r.ask.does status is in shown words texts Long r t found.0 asks means found.1 found.2)
 
 pub done_shows_soundness : DoneShowsSoundness
-done_shows_soundness words texts input written faults o = done words texts input o.0 o.1 o.3.0
+done_shows_soundness words texts input written faults o = of_messages words texts Sound Done refl input o.0 o.3.0 o.1 (λ r t asks means is. done words texts input o.0 r t asks means o.3.0 is)
 
 pub not_accepted_shows_fault : NotAcceptedShowsFault
-not_accepted_shows_fault words texts input written faults o = not_accepted words texts input o.0 o.1 o.3.0
+not_accepted_shows_fault words texts input written faults o = of_messages words texts Broken NotAccepted refl input o.0 o.3.0 o.1 (λ r t asks means is. not_accepted words texts input o.0 r t asks means o.3.0 is)
 
 pub undecided_shows_walk : UndecidedShowsWalk
-undecided_shows_walk words texts input written faults o = undecided words texts input o.0 o.1 o.3.0
+undecided_shows_walk words texts input written faults o = of_messages words texts Long Undecided refl input o.0 o.3.0 o.1 (λ r t asks means is. undecided words texts input o.0 r t asks means o.3.0 is)

@@ -1,20 +1,32 @@
 -- Which answer belongs to the words of a command, the texts on the shelf and the input.
--- Asks: the packages that the words ask for; Answers: the answers by cases.
+--   EndsAt        the walk through the packages ends before it has come through all, with this answer
+--   Asks          what the words ask for, and the packages of its closure
+--   Answers       the answers: of the words, of the walk, of packages that are refused, and of messages and the input
 use Rattle.std.specs.Prelude.{◌≡◌, ℕ, List, Some}
 use Rattle.rx_io.specs.Shelf.{Texts}
-use Rattle.rx_program.specs.Words.{Ask, asked_for, HaveNoForm}
+use Rattle.rx_syntax.specs.declared.tree.PackageTree.{PackageTree}
+use Rattle.rx_forms.specs.Checkable.{TypedMessages}
 use Rattle.rx_closure.specs.Closure.{HasNone, HasLong, HasRefused, IsClosure, Reaches, IsCrowded}
-use Rattle.rx_program.specs.Request.{Request, AnswersTo}
+use Rattle.rx_program.specs.Words.{Ask, asked_for, HaveNoForm}
+use Rattle.rx_program.specs.Refusals.{IsRefusedFor, Means}
+use Rattle.rx_program.specs.Request.{AnswersTo}
 use Rattle.rx_program.specs.declared.answer.Answer.{Answer}
 use Rattle.rx_program.specs.declared.answer.Answer.TheVariants.{Usage, ShelfFault, NoPackage, TextLimit, Refused, PackageLimit}
 
--- the words ask for something of this package
-abbrev pub AskOf : List (List ℕ) → List ℕ → Type 0
-AskOf words name = (ask : Ask) × (asked_for words ≡ Some ask) × (ask.name ≡ name)
+-- the walk from this package ends with this answer before it has come through all packages
+abbrev pub EndsAt : Texts → List ℕ → Answer → Type 0
+EndsAt texts first ShelfFault = Unit {0}
+EndsAt texts first (NoPackage name) = (name ≡ first) × HasNone texts name
+EndsAt texts first (TextLimit file) = Reaches texts first file × HasLong texts file
+EndsAt texts first (Refused file refusal) = Reaches texts first file × HasRefused texts file refusal
+EndsAt texts first PackageLimit = IsCrowded texts first
+EndsAt texts first other = ⊥
 
--- the words ask for something of a package, and the walk from that package comes to this one
-abbrev pub AskAndReach : List (List ℕ) → Texts → List ℕ → Type 0
-AskAndReach words texts file = (name : List ℕ) × AskOf words name × Reaches texts name file
+-- what is asked for, the names under which the packages of the closure were fetched, and their trees
+pub record Request : Type 0 where
+  pub ask : Ask
+  pub asked : List (List ℕ)
+  pub trees : List PackageTree
 
 -- the words ask for this, and the packages are those of the closure of its package
 pub record Asks (words : List (List ℕ)) (texts : Texts) (r : Request) : Type 0 where
@@ -22,11 +34,8 @@ pub record Asks (words : List (List ℕ)) (texts : Texts) (r : Request) : Type 0
   pub closure : IsClosure texts r.ask.name r.asked r.trees
 
 -- the answer to these words, with these texts and this input
-abbrev pub Answers : List (List ℕ) → Texts → List ℕ → Answer → Type 0
-Answers words texts input Usage = HaveNoForm words
-Answers words texts input ShelfFault = (name : List ℕ) × AskOf words name
-Answers words texts input (NoPackage name) = AskOf words name × HasNone texts name
-Answers words texts input (TextLimit file) = AskAndReach words texts file × HasLong texts file
-Answers words texts input (Refused file refusal) = AskAndReach words texts file × HasRefused texts file refusal
-Answers words texts input PackageLimit = (name : List ℕ) × AskOf words name × IsCrowded texts name
-Answers words texts input answer = (r : Request) × Asks words texts r × AnswersTo r input answer
+pub data Answers (words : List (List ℕ)) (texts : Texts) (input : List ℕ) (a : Answer) : Type 0 where
+  by_words : HaveNoForm words → a ≡ Usage → Answers words texts input a
+  by_walk : (ask : Ask) → asked_for words ≡ Some ask → EndsAt texts ask.name a → Answers words texts input a
+  by_refusal : (r : Request) → Asks words texts r → IsRefusedFor r.asked r.trees a → Answers words texts input a
+  by_messages : (r : Request) (t : TypedMessages) → Asks words texts r → Means r.asked r.trees t → AnswersTo r.ask t input a → Answers words texts input a

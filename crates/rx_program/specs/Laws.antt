@@ -2,10 +2,10 @@
 use Rattle.std.specs.Prelude.{◌≡◌, ℕ, List, Bool, true, false}
 use Rattle.rx_io.specs.Shelf.{Texts}
 use Rattle.rx_program.specs.declared.answer.Answer.{Answer}
-use Rattle.rx_program.specs.declared.answer.Answer.TheVariants.{ShelfFault, Checked, Rejected, SourceFault, Input, Output}
-use Rattle.rx_program.specs.declared.answer.Decoding.TheVariants.{Json}
+use Rattle.rx_program.specs.declared.answer.Answer.TheVariants.{ShelfFault, Checked, Rejected, SourceFault, Decoded, Encoded}
+use Rattle.rx_decode.specs.Decoded.{IsSame as IsSameDecoded}
+use Rattle.rx_encode.specs.Encoded.{IsSame as IsSameEncoded}
 use Rattle.rx_program.specs.Answers.{Answers}
-use Rattle.rx_program.specs.Outcome.{encoding_text, status_of_encoding}
 use Rattle.rx_report.specs.declared.reported.Reported.{Reported}
 
 -- a fault of the shelf or the source, which may take the place of another answer
@@ -22,8 +22,8 @@ pub record IsSameReport (one other : Reported) : Type 0 where
 
 -- the same answer; of texts the same bytes, of reports the same counts
 abbrev pub IsSame : Answer → Answer → Type 0
-IsSame (Input (Json one)) (Input (Json other)) = one.items ≡ other.items
-IsSame (Output one) (Output other) = (encoding_text one ≡ encoding_text other) × (status_of_encoding one ≡ status_of_encoding other)
+IsSame (Decoded one name) (Decoded other name') = IsSameDecoded one other × (name ≡ name')
+IsSame (Encoded one name) (Encoded other name') = IsSameEncoded one other × (name ≡ name')
 IsSame (Checked one) (Checked other) = IsSameReport one other
 IsSame (Rejected one) (Rejected other) = IsSameReport one other
 IsSame one other = one ≡ other

@@ -3,7 +3,9 @@ pub mod Asked
 pub mod Soundness
 pub mod Stage
 pub mod Operand
+pub mod Heard
 pub mod Input
+pub mod Refusals
 pub mod Request
 pub mod Answers
 pub mod Outcome

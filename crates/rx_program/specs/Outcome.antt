@@ -12,12 +12,13 @@ use Rattle.rx_serial.specs.declared.fault.UnfitReason.TheVariants as unfit
 use Rattle.rx_report.specs.declared.reported.Reported.{Reported}
 use Rattle.serde_json.specs.Data.{string}
 use Rattle.serde_json.specs.Written.{compact_text}
-use Rattle.rx_program.specs.declared.answer.Decoding.{Decoding}
-use Rattle.rx_program.specs.declared.answer.Decoding.TheVariants.{Json, Stuck}
-use Rattle.rx_program.specs.declared.answer.Encoding.{Encoding}
-use Rattle.rx_program.specs.declared.answer.Encoding.TheVariants.{Bytes, NotJson, NotObject, UnknownField, BadValue, Duplicate, Unsatisfied, Unused}
+use Rattle.rx_decode.specs.declared.decoding.Decoded.{Decoded}
+use Rattle.rx_decode.specs.declared.decoding.Decoded.TheVariants as decoded
+use Rattle.rx_encode.specs.declared.encoding.Encoded.{Encoded}
+use Rattle.rx_encode.specs.declared.encoding.Encoded.TheVariants as encoded
 use Rattle.rx_program.specs.declared.answer.Answer.{Answer}
-use Rattle.rx_program.specs.declared.answer.Answer.TheVariants.{Usage, ShelfFault, NoPackage, TextLimit, Refused, PackageLimit, Unserved, Broken, NoMessage, Checked, Rejected, SourceFault, InputLimit, Input, Output}
+use Rattle.rx_program.specs.declared.answer.Answer.TheVariants.{Usage, ShelfFault, NoPackage, TextLimit, Refused, PackageLimit, NoMessage, Checked, Rejected, SourceFault, InputLimit}
+use Rattle.rx_program.specs.declared.answer.Answer.TheVariants as answer
 use Rattle.rx_lines.specs.Lines.{line, file_of, name_text, refused_text}
 use Rattle.rx_program.specs.Answers.{Answers}
 
@@ -29,13 +30,14 @@ status_of_report r = if r.failed == 0 then (if r.undecided == 0 then Done else U
 abbrev pub status_of_rejected : Reported → Status
 status_of_rejected r = if r.failed == 0 then Undecided else NotAccepted
 
-abbrev pub status_of_decoding : Decoding → Status
-status_of_decoding (Json text) = Done
-status_of_decoding (Stuck reason field) = InputRefused
+abbrev pub status_of_decoded : Decoded → Status
+status_of_decoded (decoded.Json text) = Done
+status_of_decoded (decoded.Refused stuck) = InputRefused
 
-abbrev pub status_of_encoding : Encoding → Status
-status_of_encoding (Bytes bytes) = Done
-status_of_encoding refused = InputRefused
+abbrev pub status_of_encoded : Encoded → Status
+status_of_encoded (encoded.Bytes bytes) = Done
+status_of_encoded encoded.TooLong = Limit
+status_of_encoded refused = InputRefused
 
 -- the status of an answer that was written whole
 abbrev pub status_of : Answer → Status
@@ -45,15 +47,13 @@ status_of (NoPackage name) = Specification
 status_of (TextLimit file) = Limit
 status_of (Refused file refusal) = Specification
 status_of PackageLimit = Limit
-status_of (Unserved file refusal) = Specification
-status_of (Broken file refusal) = Specification
 status_of (NoMessage name message) = Specification
 status_of (Checked reported) = status_of_report reported
 status_of (Rejected reported) = status_of_rejected reported
 status_of SourceFault = SourceStatus
 status_of InputLimit = Limit
-status_of (Input decoding) = status_of_decoding decoding
-status_of (Output encoding) = status_of_encoding encoding
+status_of (answer.Decoded d name) = status_of_decoded d
+status_of (answer.Encoded e name) = status_of_encoded e
 
 -- the name of a reason
 abbrev pub reason_name : Reason → List ℕ
@@ -62,9 +62,10 @@ reason_name reason.Trailing = codes "Trailing"
 reason_name reason.Short = codes "Short"
 reason_name reason.Value = codes "Value"
 
--- `refused: REASON FIELD`
-abbrev pub stuck_text : Reason → Option (List ℕ) → List ℕ
-stuck_text reason name = line (codes "refused: " ++ reason_name reason ++ name_text name)
+-- the JSON on a line; or `refused: REASON FIELD`
+abbrev pub decoded_text : Decoded → Option (List ℕ) → List ℕ
+decoded_text (decoded.Json text) name = line text.items
+decoded_text (decoded.Refused stuck) name = line (codes "refused: " ++ reason_name stuck.reason ++ name_text name)
 
 abbrev pub unfit_name : UnfitReason → List ℕ
 unfit_name unfit.Condition = codes "Condition"
@@ -79,15 +80,16 @@ abbrev pub key_line : List ℕ → List ℕ → List ℕ
 key_line rule key = line (codes "refused: " ++ rule ++ codes " " ++ compact_text (string key))
 
 -- the bytes of a message alone, or why there are none
-abbrev pub encoding_text : Encoding → List ℕ
-encoding_text (Bytes bytes) = bytes.items
-encoding_text NotJson = line (codes "refused: 30 NotJson")
-encoding_text NotObject = line (codes "refused: 31 NotObject")
-encoding_text (UnknownField key) = key_line (codes "32 UnknownField") key.items
-encoding_text (BadValue key) = key_line (codes "33 BadValue") key.items
-encoding_text (Duplicate key) = key_line (codes "34 Duplicate") key.items
-encoding_text (Unsatisfied name reason) = line (codes "refused: 41 Unsatisfied" ++ name_text name ++ codes " " ++ unfit_name reason)
-encoding_text (Unused name) = line (codes "refused: 42 Unused" ++ name_text name)
+abbrev pub encoded_text : Encoded → Option (List ℕ) → List ℕ
+encoded_text (encoded.Bytes bytes) name = bytes.items
+encoded_text encoded.NotJson name = line (codes "refused: 30 NotJson")
+encoded_text encoded.NotObject name = line (codes "refused: 31 NotObject")
+encoded_text (encoded.UnknownField key) name = key_line (codes "32 UnknownField") key.items
+encoded_text (encoded.BadValue key) name = key_line (codes "33 BadValue") key.items
+encoded_text (encoded.Duplicate key) name = key_line (codes "34 Duplicate") key.items
+encoded_text encoded.TooLong name = line (codes "limit: input")
+encoded_text (encoded.Unsatisfied field reason) name = line (codes "refused: 41 Unsatisfied" ++ name_text name ++ codes " " ++ unfit_name reason)
+encoded_text (encoded.Unused field) name = line (codes "refused: 42 Unused" ++ name_text name)
 
 -- the text is that of the answer
 abbrev pub IsText : Answer → List ℕ → Type 0
@@ -97,16 +99,13 @@ IsText (NoPackage name) text = text ≡ line (file_of name ++ codes ": 8 Unknown
 IsText (TextLimit name) text = text ≡ line (codes "limit: text " ++ file_of name)
 IsText (Refused name refusal) text = text ≡ refused_text name refusal
 IsText PackageLimit text = text ≡ line (codes "limit: packages")
-IsText (Unserved name refusal) text = text ≡ refused_text name refusal
-IsText (Broken name refusal) text = text ≡ refused_text name refusal
 IsText (NoMessage name message) text = text ≡ line (file_of name ++ codes ": 8 UnknownName " ++ message)
 IsText (Checked reported) text = text ≡ reported.text.items
 IsText (Rejected reported) text = text ≡ reported.text.items
 IsText SourceFault text = text ≡ line (codes "fault: source")
 IsText InputLimit text = text ≡ line (codes "limit: input")
-IsText (Input (Json json)) text = text ≡ line json.items
-IsText (Input (Stuck reason name)) text = text ≡ stuck_text reason name
-IsText (Output encoding) text = text ≡ encoding_text encoding
+IsText (answer.Decoded d name) text = text ≡ decoded_text d name
+IsText (answer.Encoded e name) text = text ≡ encoded_text e name
 
 -- the status is that of the answer, or what may take the place of any other
 abbrev pub IsShown : Answer → Status → Type 0

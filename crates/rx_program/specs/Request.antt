@@ -1,138 +1,58 @@
--- What packages and an input answer to a request.
---   Request                  what is asked for, and the packages of its closure
---   TellsForm, TellsRule     why the packages are refused, and in which file
---   AreMeant, IsFound        the specification and the message that the code has are these
---   Means, Finds, Serves     what they mean, the message in it that is asked for, and that it is served: its checks pass, so it is sound
---   AnswersTo r input a      the answers by cases
-use Rattle.std.specs.Prelude.{◌≡◌, ◌⊎◌, ℕ, ◌<◌, ◌≤◌, List, [], ◌∷◌, length, Some, None, Ok, Err, slice_get}
-use Rattle.rx_syntax.specs.declared.tree.PackageTree.{PackageTree}
+-- What the messages of a package and an input answer to what is asked for.
+--   IsAll                    the report of all messages of the package
+--   Serves                   the message of a name is served: its checks pass, so it is sound
+--   IsDenied                 it is not: there is none, or some check of it does not pass
+--   AnswersTo ask t input a  the answers, a case for each command
+use Rattle.std.specs.Prelude.{◌≡◌, ◌⊎◌, ℕ, List, [], ◌∷◌, Some, None}
 use Rattle.rx_graph.specs.Elaborated.{IsSound}
-use Rattle.rx_graph.specs.Graph.{Graph, Specified}
-use Rattle.rx_syntax.specs.declared.rule.Refusal.{Refusal}
-use Rattle.rx_graph.specs.Typed.{Typed}
+use Rattle.rx_graph.specs.Graph.{Graph}
 use Rattle.rx_forms.specs.Checkable.{TypedMessages}
-use Rattle.rx_spec.specs.Elaboration.{elaborated, Told}
-use Rattle.rx_spec.specs.Laws.{domains_in}
 use Rattle.rx_values.specs.Laws.{AreNamed}
 use Rattle.rx_report.specs.declared.reported.Reported.{Reported}
 use Rattle.rx_report.specs.Reported.{messages_of, Passes, IsReported, HasOpen}
-use Rattle.rx_encode.specs.Encoded.{IsEncoded}
-use Rattle.rx_encode.specs.declared.encoding.Encoded.TheVariants.{TooLong}
-use Rattle.rx_program.specs.Words.{Does, Ask, Checks, Decodes, Encodes, message_asked}
-use Rattle.rx_program.specs.Stage.{of_packages, AreServed}
+use Rattle.rx_program.specs.Words.{Does, Ask, Checks, Decodes, Encodes}
 use Rattle.rx_program.specs.Operand.{message_in}
-use Rattle.rx_program.specs.Input.{input_limit, DecodesTo, EncodesTo}
-use Rattle.rx_closure.specs.declared.closure.Packages.{Packages}
+use Rattle.rx_program.specs.Input.{IsReadAs, IsWrittenAs}
 use Rattle.rx_program.specs.declared.answer.Answer.{Answer}
-use Rattle.rx_program.specs.declared.answer.Answer.TheVariants.{Unserved, Broken, NoMessage, Checked, Rejected, SourceFault, InputLimit, Input, Output}
+use Rattle.rx_program.specs.declared.answer.Answer.TheVariants.{NoMessage, Checked, Rejected}
 
--- what is asked for, the names under which the packages of the closure were fetched, and their trees
-pub record Request : Type 0 where
-  pub ask : Ask
-  pub asked : List (List ℕ)
-  pub trees : List PackageTree
+module _ (t : TypedMessages) (owner : List ℕ) (splits : ℕ) where
+  -- the report of all messages of the package
+  abbrev pub IsAll : Answer → Type 0
+  IsAll (Checked reported) = IsReported t.domains splits (messages_of owner t.graphs) reported
+  IsAll other = ⊥
 
--- the packages that were read, for who asks for this
-abbrev pub request_of : Ask → Packages → Request
-request_of ask p = record { ask = ask; asked = p.asked.items; trees = p.trees.items }
+  module _ (name : List ℕ) where
+    -- the message of this name, all of whose checks pass: it is sound, and its fields and literals have names
+    pub record Serves (m : Graph) : Type 0 where
+      pub found : message_in owner name t.graphs ≡ Some m
+      pub passes : Passes t.domains splits m
+      pub sound : IsSound t.domains m
+      pub named : AreNamed t.domains m
 
-module _ (r : Request) where
-  -- the first form that is not served yet, and the package in whose text it stands
-  pub record TellsForm (file : List ℕ) (refusal : Refusal) : Type 0 where
-    pub at : ℕ
-    pub first : of_packages 0 r.trees ≡ Some (record { «package» = at; refusal = refusal })
-    pub file_is : slice_get r.asked at ≡ Some file
+    -- some check of the message of this name did not pass, and this is its report
+    pub record ReportsOne (reported : Reported) : Type 0 where
+      pub graph : Graph
+      pub found : message_in owner name t.graphs ≡ Some graph
+      pub reported_is : IsReported t.domains splits (graph ∷ []) reported
+      pub not_passed : HasOpen reported
 
-  -- the rule that is broken first, and the package in whose text it is
-  pub record TellsRule (file : List ℕ) (refusal : Refusal) : Type 0 where
-    pub served : AreServed r.trees
-    pub told : Told
-    pub refused : elaborated r.asked r.trees ≡ Err told
-    pub refusal_is : refusal ≡ told.refusal
-    pub file_is : slice_get r.asked told.«package» ≡ Some file
+    -- there is no message of this name, or some check of it did not pass
+    abbrev pub IsDenied : Answer → Type 0
+    IsDenied (NoMessage home message) = (home ≡ owner) × (message ≡ name) × (message_in owner name t.graphs ≡ None)
+    IsDenied (Rejected reported) = ReportsOne reported
+    IsDenied other = ⊥
 
-  -- what the packages mean
-  pub record Means (s : Specified) : Type 0 where
-    pub served : AreServed r.trees
-    pub meaning : elaborated r.asked r.trees ≡ Ok s
+    -- the message is denied, or it is served, and this is answered of it
+    abbrev pub IsAnswered : (Graph → Answer → Type 0) → Answer → Type 0
+    IsAnswered Is a = IsDenied a ⊎ ((m : Graph) × Serves m × Is m a)
 
-  -- the packages have no message of the name that is asked for
-  pub record Lacks (name : List ℕ) : Type 0 where
-    pub spec : Specified
-    pub means : Means spec
-    pub asked_is : message_asked r.ask.does ≡ Some name
-    pub lacks : message_in r.ask.name name spec.messages ≡ None
+  -- the answer to each command
+  abbrev pub IsDone : Does → List ℕ → Answer → Type 0
+  IsDone Checks input a = IsAll a
+  IsDone (Decodes name) input a = IsAnswered name (λ m. IsReadAs t.domains m input) a
+  IsDone (Encodes name) input a = IsAnswered name (λ m. IsWrittenAs t.domains m input) a
 
-  -- the message that is asked for
-  pub record Finds (s : Specified) (m : Graph) : Type 0 where
-    pub means : Means s
-    pub name : List ℕ
-    pub asked_is : message_asked r.ask.does ≡ Some name
-    pub found : message_in r.ask.name name s.messages ≡ Some m
-
-  -- the specification is what the packages mean
-  pub record AreMeant (t : TypedMessages) : Type 0 where
-    pub spec : Specified
-    pub means : Means spec
-    pub types : t.domains ≡ domains_in spec
-    pub messages : t.graphs ≡ spec.messages
-
-  -- the message, with its scalar types, is the one that is asked for
-  pub record IsFound (t : Typed) : Type 0 where
-    pub spec : Specified
-    pub finds : Finds spec t.graph
-    pub types : t.domains ≡ domains_in spec
-
-  -- all messages of the package are checked, and this is the report
-  pub record ReportsAll (reported : Reported) : Type 0 where
-    pub spec : Specified
-    pub means : Means spec
-    pub asked_is : r.ask.does ≡ Checks
-    pub reported_is : IsReported (domains_in spec) r.ask.splits (messages_of r.ask.name spec.messages) reported
-
-  -- some check of the message that is asked for did not pass, and this is its report
-  pub record ReportsOne (reported : Reported) : Type 0 where
-    pub spec : Specified
-    pub graph : Graph
-    pub finds : Finds spec graph
-    pub reported_is : IsReported (domains_in spec) r.ask.splits (graph ∷ []) reported
-    pub not_passed : HasOpen reported
-
-  -- the message that is asked for, all of whose checks pass: it is sound, and its fields and literals have names
-  pub record Serves (s : Specified) (m : Graph) : Type 0 where
-    pub finds : Finds s m
-    pub passes : Passes (domains_in s) r.ask.splits m
-    pub sound : IsSound (domains_in s) m
-    pub named : AreNamed (domains_in s) m
-
-  -- the input, or the message that is to be made of it, is too long
-  abbrev pub IsTooLong : Does → Specified → Graph → List ℕ → Type 0
-  IsTooLong Checks s m input = ⊥
-  IsTooLong (Decodes name) s m input = input_limit < length input
-  IsTooLong (Encodes name) s m input = (input_limit < length input) ⊎ ((length input ≤ input_limit) × IsEncoded (domains_in s) m input TooLong)
-
-  -- the answer of the packages, and with this input
-  abbrev pub AnswersTo : List ℕ → Answer → Type 0
-  AnswersTo input (Unserved file refusal) = TellsForm file refusal
-  AnswersTo input (Broken file refusal) = TellsRule file refusal
-  AnswersTo input (NoMessage name message) = (name ≡ r.ask.name) × Lacks message
-  AnswersTo input (Checked reported) = ReportsAll reported
-  AnswersTo input (Rejected reported) = ReportsOne reported
-  AnswersTo input SourceFault = (s : Specified) × (m : Graph) × Serves s m
-  AnswersTo input InputLimit = (s : Specified) × (m : Graph) × Serves s m × IsTooLong r.ask.does s m input
-  AnswersTo input (Input decoding) = (s : Specified) × (m : Graph) × (name : List ℕ) × Serves s m × (r.ask.does ≡ Decodes name) × (length input ≤ input_limit) × DecodesTo (domains_in s) m input decoding
-  AnswersTo input (Output encoding) = (s : Specified) × (m : Graph) × (name : List ℕ) × Serves s m × (r.ask.does ≡ Encodes name) × (length input ≤ input_limit) × EncodesTo (domains_in s) m input encoding
-  AnswersTo input answer = ⊥
-
--- an answer to a request of packages that were all read
-abbrev pub IsOfRequest : Answer → Type 0
-IsOfRequest (Unserved file refusal) = Unit {0}
-IsOfRequest (Broken file refusal) = Unit {0}
-IsOfRequest (NoMessage name message) = Unit {0}
-IsOfRequest (Checked reported) = Unit {0}
-IsOfRequest (Rejected reported) = Unit {0}
-IsOfRequest SourceFault = Unit {0}
-IsOfRequest InputLimit = Unit {0}
-IsOfRequest (Input decoding) = Unit {0}
-IsOfRequest (Output encoding) = Unit {0}
-IsOfRequest _ = ⊥
+-- what these messages and this input answer to what is asked for
+abbrev pub AnswersTo : Ask → TypedMessages → List ℕ → Answer → Type 0
+AnswersTo ask t input a = IsDone t ask.name ask.splits ask.does input a

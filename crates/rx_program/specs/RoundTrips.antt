@@ -5,15 +5,16 @@
 --   DecodedIsEncoded    what was printed of a buffer is encoded as the buffer
 use Rattle.std.specs.Prelude.{◌≡◌, ℕ, List, Some, Ok}
 use Rattle.rx_io.specs.Shelf.{Texts}
-use Rattle.rx_graph.specs.Graph.{Graph, Specified}
+use Rattle.rx_graph.specs.Graph.{Graph}
 use Rattle.rx_graph.specs.Fits.{Assigned}
-use Rattle.rx_spec.specs.Laws.{domains_in}
+use Rattle.rx_forms.specs.Checkable.{TypedMessages}
 use Rattle.rx_values.specs.Reading.{value_of}
 use Rattle.rx_values.specs.Printing.{json_text}
 use Rattle.rx_serial.specs.Laws.{AreBytes}
 use Rattle.rx_program.specs.Words.{Does, Decodes, Encodes, asked_for}
-use Rattle.rx_program.specs.Request.{Request, Serves}
-use Rattle.rx_program.specs.Answers.{Asks}
+use Rattle.rx_program.specs.Refusals.{Means}
+use Rattle.rx_program.specs.Request.{Serves}
+use Rattle.rx_program.specs.Answers.{Request, Asks}
 use Rattle.rx_lines.specs.Lines.{line}
 use Rattle.rx_program.specs.Outcome.{FaultCounts, Outcome}
 use Rattle.rx_program.specs.declared.status.Status.TheVariants.{Done}
@@ -29,16 +30,19 @@ pub record AskBoth (encode decode : List (List ℕ)) : Type 0 where
   pub encodes : AskThat encode name (Encodes message)
   pub decodes : AskThat decode name (Decodes message)
 
--- the text is a valuation of the message that the words ask for, and the line is its JSON
+-- the text is a valuation of the message that the words ask to encode, and the line is its JSON
 pub record IsJsonOfText (words : List (List ℕ)) (texts : Texts) (text printed : List ℕ) : Type 0 where
   pub request : Request
   pub asks : Asks words texts request
-  pub spec : Specified
+  pub messages : TypedMessages
+  pub means : Means request.asked request.trees messages
+  pub name : List ℕ
+  pub asked_is : request.ask.does ≡ Encodes name
   pub graph : Graph
-  pub serves : Serves request spec graph
+  pub serves : Serves messages request.ask.name request.ask.splits name graph
   pub values : List Assigned
-  pub valued : value_of (domains_in spec) graph text ≡ Ok values
-  pub printed_is : printed ≡ line (json_text (domains_in spec) graph values)
+  pub valued : value_of messages.domains graph text ≡ Ok values
+  pub printed_is : printed ≡ line (json_text messages.domains graph values)
 
 -- what was encoded of a text is decoded as the JSON of the text's valuation
 abbrev pub EncodedIsDecoded : Type 0

@@ -5,7 +5,8 @@
 --   AreServed ps          the packages have none of them
 --   IsUnserved ps e       the fault tells the first of them
 --   IsWithin n e          the fault tells one of so many packages
-use Rattle.std.specs.Prelude.{◌≡◌, ℕ, ◌+◌, ◌<◌, List, [], ◌∷◌, Option, Some, None, codes}
+--   IsToldIn asked e a    the answer tells the refusal of the fault, and the file of its package
+use Rattle.std.specs.Prelude.{◌≡◌, ℕ, ◌+◌, ◌<◌, List, [], ◌∷◌, Option, Some, None, codes, slice_get}
 use Rattle.std.specs.Option.{option_or}
 use Rattle.rx_syntax.specs.declared.token.Place.{Place}
 use Rattle.rx_syntax.specs.declared.tree.PackageTree.{PackageTree}
@@ -20,6 +21,8 @@ use Rattle.rx_spec.specs.declared.fault.ElabFault.{ElabFault}
 use Rattle.rx_spec.specs.declared.fault.ElabFault.TheVariants.{Refused, NoMemory}
 use Rattle.rx_spec.specs.Elaboration.{Told}
 use Rattle.rx_syntax.specs.declared.rule.Rule.TheVariants as rule
+use Rattle.rx_program.specs.declared.answer.Answer.{Answer}
+use Rattle.rx_program.specs.declared.answer.Answer.TheVariants as answer
 
 -- the refusal of a form that is told by this word
 abbrev pub unsupported : Place → List ℕ → Refusal
@@ -68,3 +71,8 @@ IsUnserved ps NoMemory = Unit {0}
 abbrev pub IsWithin : ℕ → ElabFault → Type 0
 IsWithin n (Refused i r) = i < n
 IsWithin n NoMemory = Unit {0}
+
+-- the answer tells the refusal of the fault, and the file in whose text it stands
+abbrev pub IsToldIn : List (List ℕ) → ElabFault → Answer → Type 0
+IsToldIn asked (Refused i r) (answer.Refused file refusal) = (refusal ≡ r) × (slice_get asked i ≡ Some file)
+IsToldIn asked fault other = ⊥

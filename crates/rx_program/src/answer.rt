@@ -1,33 +1,8 @@
 //! What a command answers, before it is printed.
+use crate::fault::NoMemory;
 use rx_report::Reported;
-use rx_serial::UnfitReason;
 use rx_syntax::Refusal;
-use rx_types::{Name, Reason};
-
-/// What a buffer is of a message.
-#[derive(Debug, Drop)]
-pub enum Decoding {
-    /// It reads as this JSON.
-    Json(Vec<u8>),
-    /// No path fits it: the longest one stops for this reason, at this field, if any.
-    Stuck(Reason, Option<Name>),
-}
-
-/// What a JSON text is of a message. Members are told by their keys.
-#[derive(Debug, Drop)]
-pub enum Encoding {
-    /// The buffer that reads as its valuation.
-    Bytes(Vec<u8>),
-    NotJson,
-    NotObject,
-    UnknownField(Vec<u8>),
-    BadValue(Vec<u8>),
-    Duplicate(Vec<u8>),
-    /// The valuation does not lead on from this field, the path's last, or to this one.
-    Unsatisfied(Option<Name>, UnfitReason),
-    /// The path ends, and lacks this field of the valuation.
-    Unused(Option<Name>),
-}
+use rx_types::Name;
 
 /// What a command answers.
 #[derive(Debug, Drop)]
@@ -39,14 +14,10 @@ pub enum Answer {
     NoPackage(Name),
     /// The text of this package is too long.
     TextLimit(Name),
-    /// The text of this package is refused.
+    /// The text of this package is refused: it has no tree or a form that is not served yet, or it breaks a rule.
     Refused(Name, Refusal),
     /// A 65th package is named.
     PackageLimit,
-    /// The text of this package has a form that is not served yet.
-    Unserved(Name, Refusal),
-    /// The text of this package breaks a rule.
-    Broken(Name, Refusal),
     /// The package has no message of the second name.
     NoMessage(Name, Name),
     /// The checks of all messages.
@@ -54,10 +25,40 @@ pub enum Answer {
     /// The checks of the message that is asked for, some of which did not pass.
     Rejected(Reported),
     SourceFault,
-    /// The input is too long, or makes a message that is.
+    /// The input is longer than 16,777,215 bytes.
     InputLimit,
-    /// What the input is where it is decoded.
-    Input(Decoding),
-    /// What the input is where it is encoded.
-    Output(Encoding),
+    /// What the input is where it is decoded, and the name of the field that this tells, if any.
+    Decoded(rx_decode::Decoded, Option<Name>),
+    /// What the input is where it is encoded, and the name of the field that this tells, if any.
+    Encoded(rx_encode::Encoded, Option<Name>),
+}
+
+/// Why a command ends before it comes to its input.
+#[derive(Debug, Drop)]
+pub enum Early {
+    /// This is its answer, whatever the input holds.
+    Answer(Answer),
+    NoMemory,
+}
+
+impl From<NoMemory> for Early {
+    ghost use Rattle.std.specs.Prelude.{◌≡◌};
+    ghost use Rattle.rx_program.specs.declared.answer.Early.TheVariants.{NoMemory};
+
+    ghost from_gives = { λ _ e. e ≡ NoMemory };
+
+    fn from(_: NoMemory) -> Early {
+        Early::NoMemory
+    }
+}
+
+impl From<rx_report::NoMemory> for Early {
+    ghost use Rattle.std.specs.Prelude.{◌≡◌};
+    ghost use Rattle.rx_program.specs.declared.answer.Early.TheVariants.{NoMemory};
+
+    ghost from_gives = { λ _ e. e ≡ NoMemory };
+
+    fn from(_: rx_report::NoMemory) -> Early {
+        Early::NoMemory
+    }
 }

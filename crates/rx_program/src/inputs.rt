@@ -1,13 +1,13 @@
 //! What the input is of a message whose checks pass.
-ghost use Rattle.std.specs.Prelude.{◌≡◌, ◌≤◌, ℕ, List, length, Ok, IfOk, IfSome};
+ghost use Rattle.std.specs.Prelude.{◌≡◌, ◌≤◌, length, Ok, IfOk, IfSome};
 ghost use Rattle.std.specs.Io.KnownBytes.{IsAtEnd};
 ghost use Rattle.rx_io.specs.Faults.{HasRisen};
-ghost use Rattle.rx_types.specs.Domain.{Domain};
-ghost use Rattle.rx_context.specs.Plan.{StandsFor};
 ghost use Rattle.rx_encode.specs.Encoded.{IsEncoded};
-ghost use Rattle.rx_program.specs.Input.{name_if_any, DecodesTo, EncodesTo, IsOfInput, IsOfWhole, IsReadAs, IsWrittenAs};
+ghost use Rattle.rx_decode.specs.Decoded.{IsDecoded};
+ghost use Rattle.rx_program.specs.Heard.{IsOfInput, IsOfWhole};
+ghost use Rattle.rx_program.specs.Input.{name_if_any, stop_of, refused_at, IsReadAs, IsWrittenAs};
 
-use crate::answer::{Answer, Decoding, Encoding};
+use crate::answer::Answer;
 use crate::fault::NoMemory;
 use rx_context::Plan;
 use rx_decode::{Decoded, decode};
@@ -16,6 +16,9 @@ use rx_graph::{Elaborated, Sound};
 use rx_io::{ReadFault, Source, read_all};
 use rx_types::{FieldId, Name};
 use std::alloc::Global;
+
+// The greatest length of an input, in bytes.
+const INPUT_LIMIT: usize = 16777215;
 
 // The name of a field, if there is one.
 fn name_of(
@@ -34,33 +37,66 @@ fn name_of(
     }
 }
 
-// What a buffer is of a message, by its plan.
-fn decode_by(
-    alloc: Global,
-    message: &Elaborated<'_>,
-    plan: &Plan,
-    bytes: &[u8],
-) -> Result<Decoding, NoMemory>
-    requires stands { StandsFor message.now.domains message.now.graph plan.now }
-    requires limit { length bytes.now ≤ 16777215 }
-    ensures { IfOk result (DecodesTo message.now.domains message.now.graph bytes.now) }
+// The field at which a buffer is stuck, if any.
+fn stop_of(decoded: &Decoded) -> Option<FieldId>
+    ensures { result ≡ stop_of decoded.now }
 {
-    match decode(alloc, message, plan, bytes)? {
-        Decoded::Json(text) => Ok(Decoding::Json(text)),
-        Decoded::Refused(stuck) => {
-            let name = name_of(alloc, message, stuck.field)?;
-            Ok(Decoding::Stuck(stuck.reason, name))
-        }
+    match decoded {
+        Decoded::Json(_) => None,
+        Decoded::Refused(stuck) => stuck.field,
+    }
+}
+
+// The field at which a valuation fits no path, if any.
+fn refused_at(encoded: &Encoded) -> Option<FieldId>
+    ensures { result ≡ refused_at encoded.now }
+{
+    match encoded {
+        Encoded::Unsatisfied(field, _) => *field,
+        Encoded::Unused(field) => Some(*field),
+        _ => None,
     }
 }
 
 // What a buffer is of a message.
-fn decode_input(alloc: Global, message: &Sound<'_>, bytes: &[u8]) -> Result<Decoding, NoMemory>
+fn decoded(alloc: Global, message: &Sound<'_>, bytes: &[u8]) -> Result<Decoded, NoMemory>
     requires { length bytes.now ≤ 16777215 }
-    ensures { IfOk result (DecodesTo message.now.domains message.now.graph bytes.now) }
+    ensures { IfOk result (IsDecoded message.now.domains message.now.graph bytes.now) }
 {
     let plan = Plan::of(alloc, message)?;
-    decode_by(alloc, message.elaborated(), &plan, bytes)
+    Ok(decode(alloc, message.elaborated(), &plan, bytes)?)
+}
+
+// What a JSON text is of a message.
+fn encoded(alloc: Global, message: &Sound<'_>, text: &[u8]) -> Result<Encoded, NoMemory>
+    ensures { IfOk result (IsEncoded message.now.domains message.now.graph text.now) }
+{
+    let plan = Plan::of(alloc, message)?;
+    Ok(encode(alloc, message, &plan, text)?)
+}
+
+// What a buffer is of a message, as an answer.
+fn decoded_answer(alloc: Global, message: &Sound<'_>, bytes: &[u8]) -> Result<Answer, NoMemory>
+    requires { length bytes.now ≤ 16777215 }
+    ensures read { IfOk result (IsReadAs message.now.domains message.now.graph bytes.now) }
+    ensures kind { IfOk result IsOfInput }
+    ensures no_fault { result ≡ Ok Answer.SourceFault → ⊥ }
+{
+    let decoded = decoded(alloc, message, bytes)?;
+    let name = name_of(alloc, message.elaborated(), stop_of(&decoded))?;
+    Ok(Answer::Decoded(decoded, name))
+}
+
+// What a JSON text is of a message, as an answer.
+fn encoded_answer(alloc: Global, message: &Sound<'_>, text: &[u8]) -> Result<Answer, NoMemory>
+    requires { length text.now ≤ 16777215 }
+    ensures written { IfOk result (IsWrittenAs message.now.domains message.now.graph text.now) }
+    ensures kind { IfOk result IsOfInput }
+    ensures no_fault { result ≡ Ok Answer.SourceFault → ⊥ }
+{
+    let encoded = encoded(alloc, message, text)?;
+    let name = name_of(alloc, message.elaborated(), refused_at(&encoded))?;
+    Ok(Answer::Encoded(encoded, name))
 }
 
 /// What the input is of a message, where it is decoded.
@@ -71,56 +107,15 @@ pub fn read_input<I: Source>(
 ) -> Result<Answer, NoMemory>
     ensures read { IfOk result (λ answer. IfSome (I.left input.old) (λ left. IsReadAs message.now.domains message.now.graph left answer)) }
     ensures at_end { IfOk result (λ answer. IsOfWhole answer → IsAtEnd (I.left input.new)) }
-    ensures never { IfOk result IsOfInput }
+    ensures kind { IfOk result IsOfInput }
     ensures cause { result ≡ Ok Answer.SourceFault → HasRisen (I.faults input.old) (I.faults input.new) }
 {
-    match read_all(alloc, input, 16777215) {
-        Ok(bytes) => Ok(Answer::Input(decode_input(alloc, message, &bytes)?)),
+    match read_all(alloc, input, INPUT_LIMIT) {
+        Ok(bytes) => decoded_answer(alloc, message, &bytes),
         Err(ReadFault::Failed) => Ok(Answer::SourceFault),
         Err(ReadFault::TooLong) => Ok(Answer::InputLimit),
         Err(ReadFault::NoMemory) => Err(NoMemory),
     }
-}
-
-// The answer to what a text is.
-fn encoded(alloc: Global, message: &Elaborated<'_>, encoded: Encoded) -> Result<Answer, NoMemory>
-    ensures answers { IfOk result (λ answer. (domains : List Domain) (text : List ℕ) → IsEncoded domains message.now.graph text encoded → length text ≤ 16777215 → IsWrittenAs domains message.now.graph text answer) }
-    ensures never { IfOk result IsOfInput }
-    ensures no_fault { result ≡ Ok Answer.SourceFault → ⊥ }
-{
-    let encoding = match encoded {
-        Encoded::Bytes(bytes) => Encoding::Bytes(bytes),
-        Encoded::NotJson => Encoding::NotJson,
-        Encoded::NotObject => Encoding::NotObject,
-        Encoded::UnknownField(key) => Encoding::UnknownField(key),
-        Encoded::BadValue(key) => Encoding::BadValue(key),
-        Encoded::Duplicate(key) => Encoding::Duplicate(key),
-        Encoded::TooLong => return Ok(Answer::InputLimit),
-        Encoded::Unsatisfied(field, reason) => {
-            Encoding::Unsatisfied(name_of(alloc, message, field)?, reason)
-        }
-        Encoded::Unused(field) => Encoding::Unused(name_of(alloc, message, Some(field))?),
-    };
-    Ok(Answer::Output(encoding))
-}
-
-// What a JSON text is of a message.
-fn encode_input(alloc: Global, message: &Sound<'_>, text: &[u8]) -> Result<Encoded, NoMemory>
-    ensures { IfOk result (IsEncoded message.now.domains message.now.graph text.now) }
-{
-    let plan = Plan::of(alloc, message)?;
-    Ok(encode(alloc, message, &plan, text)?)
-}
-
-// What a JSON text is of a message, as an answer.
-fn answer_text(alloc: Global, message: &Sound<'_>, text: &[u8]) -> Result<Answer, NoMemory>
-    requires { length text.now ≤ 16777215 }
-    ensures written { IfOk result (IsWrittenAs message.now.domains message.now.graph text.now) }
-    ensures never { IfOk result IsOfInput }
-    ensures no_fault { result ≡ Ok Answer.SourceFault → ⊥ }
-{
-    let found = encode_input(alloc, message, text)?;
-    encoded(alloc, message.elaborated(), found)
 }
 
 /// What the input is of a message, where it is encoded.
@@ -131,11 +126,11 @@ pub fn write_input<I: Source>(
 ) -> Result<Answer, NoMemory>
     ensures written { IfOk result (λ answer. IfSome (I.left input.old) (λ left. IsWrittenAs message.now.domains message.now.graph left answer)) }
     ensures at_end { IfOk result (λ answer. IsOfWhole answer → IsAtEnd (I.left input.new)) }
-    ensures never { IfOk result IsOfInput }
+    ensures kind { IfOk result IsOfInput }
     ensures cause { result ≡ Ok Answer.SourceFault → HasRisen (I.faults input.old) (I.faults input.new) }
 {
-    match read_all(alloc, input, 16777215) {
-        Ok(text) => answer_text(alloc, message, &text),
+    match read_all(alloc, input, INPUT_LIMIT) {
+        Ok(text) => encoded_answer(alloc, message, &text),
         Err(ReadFault::Failed) => Ok(Answer::SourceFault),
         Err(ReadFault::TooLong) => Ok(Answer::InputLimit),
         Err(ReadFault::NoMemory) => Err(NoMemory),

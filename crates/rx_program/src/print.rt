@@ -2,13 +2,14 @@
 ghost use Rattle.std.specs.Prelude.{◌≡◌, ℕ, List, [], ◌∷◌, ◌++◌, IfOk, OnOk, codes};
 ghost use Rattle.std.specs.Io.KnownBytes.{Appends};
 ghost use Rattle.rx_io.specs.Faults.{HasRisen};
-ghost use Rattle.rx_lines.specs.Lines.{file_of, name_text};
-ghost use Rattle.rx_program.specs.Outcome.{status_of, reason_name, stuck_text, status_of_report, status_of_rejected, status_of_decoding, status_of_encoding, unfit_name, key_line, encoding_text, IsText, IsShown, Prints};
+ghost use Rattle.rx_lines.specs.Lines.{line, file_of, name_text};
+ghost use Rattle.rx_program.specs.Outcome.{status_of, reason_name, decoded_text, status_of_report, status_of_rejected, status_of_decoded, status_of_encoded, unfit_name, key_line, encoded_text, IsText, IsShown, Prints};
 
-use crate::answer::{Answer, Decoding, Encoding};
+use crate::answer::Answer;
 use crate::fault::NoMemory;
 use crate::status::Status;
-use rx_encode::key_text;
+use rx_decode::Decoded;
+use rx_encode::{Encoded, key_text};
 use rx_io::{Sink, write_all};
 use rx_lines::{file_of, line_of, name_text, put, put_both, refused};
 use rx_report::Reported;
@@ -36,14 +37,6 @@ fn reason_name(reason: Reason) -> &'static str
     }
 }
 
-// The line of an input that no path fits.
-fn stuck(alloc: Global, reason: Reason, name: &Option<Name>) -> Result<Vec<u8>, NoMemory>
-    ensures { IfOk result (λ text. text.items ≡ stuck_text reason name.now) }
-{
-    let name = name_text(alloc, name)?;
-    Ok(line_of(alloc, b"refused: ", reason_name(reason).as_bytes(), &name)?)
-}
-
 // NotAccepted where a check failed, else Undecided where one is undecided.
 fn status_of_report(reported: &Reported) -> Status
     ensures { result ≡ status_of_report reported.now }
@@ -68,28 +61,23 @@ fn status_of_rejected(reported: &Reported) -> Status
 }
 
 // The status of what a buffer is.
-fn status_of_decoding(decoding: &Decoding) -> Status
-    ensures { result ≡ status_of_decoding decoding.now }
+fn status_of_decoded(decoded: &Decoded) -> Status
+    ensures { result ≡ status_of_decoded decoded.now }
 {
-    match decoding {
-        Decoding::Json(_) => Status::Done,
-        Decoding::Stuck(_, _) => Status::InputRefused,
+    match decoded {
+        Decoded::Json(_) => Status::Done,
+        Decoded::Refused(_) => Status::InputRefused,
     }
 }
 
 // The status of what a text is.
-fn status_of_encoding(encoding: &Encoding) -> Status
-    ensures { result ≡ status_of_encoding encoding.now }
+fn status_of_encoded(encoded: &Encoded) -> Status
+    ensures { result ≡ status_of_encoded encoded.now }
 {
-    match encoding {
-        Encoding::Bytes(_) => Status::Done,
-        Encoding::NotJson => Status::InputRefused,
-        Encoding::NotObject => Status::InputRefused,
-        Encoding::UnknownField(_) => Status::InputRefused,
-        Encoding::BadValue(_) => Status::InputRefused,
-        Encoding::Duplicate(_) => Status::InputRefused,
-        Encoding::Unsatisfied(_, _) => Status::InputRefused,
-        Encoding::Unused(_) => Status::InputRefused,
+    match encoded {
+        Encoded::Bytes(_) => Status::Done,
+        Encoded::TooLong => Status::Limit,
+        _ => Status::InputRefused,
     }
 }
 
@@ -104,15 +92,13 @@ fn status_of(answer: &Answer) -> Status
         Answer::TextLimit(_) => Status::Limit,
         Answer::Refused(_, _) => Status::Specification,
         Answer::PackageLimit => Status::Limit,
-        Answer::Unserved(_, _) => Status::Specification,
-        Answer::Broken(_, _) => Status::Specification,
         Answer::NoMessage(_, _) => Status::Specification,
         Answer::Checked(reported) => status_of_report(reported),
         Answer::Rejected(reported) => status_of_rejected(reported),
         Answer::SourceFault => Status::SourceFault,
         Answer::InputLimit => Status::Limit,
-        Answer::Input(decoding) => status_of_decoding(decoding),
-        Answer::Output(encoding) => status_of_encoding(encoding),
+        Answer::Decoded(decoded, _) => status_of_decoded(decoded),
+        Answer::Encoded(encoded, _) => status_of_encoded(encoded),
     }
 }
 
@@ -125,12 +111,16 @@ fn as_line(mut text: Vec<u8>) -> Result<Vec<u8>, NoMemory>
 }
 
 // The text of what a buffer is.
-fn input_text(alloc: Global, decoding: Decoding) -> Result<Vec<u8>, NoMemory>
-    ensures { IfOk result (λ text. IsText (Answer.Input decoding) text.items) }
+fn decoded_text(alloc: Global, decoded: Decoded, name: &Option<Name>) -> Result<Vec<u8>, NoMemory>
+    ensures { IfOk result (λ text. text.items ≡ decoded_text decoded name.now) }
 {
-    match decoding {
-        Decoding::Json(json) => as_line(json),
-        Decoding::Stuck(reason, name) => stuck(alloc, reason, &name),
+    match decoded {
+        Decoded::Json(json) => as_line(json),
+        Decoded::Refused(stuck) => {
+            let name = name_text(alloc, name)?;
+            let reason = reason_name(stuck.reason);
+            Ok(line_of(alloc, b"refused: ", reason.as_bytes(), &name)?)
+        }
     }
 }
 
@@ -160,7 +150,7 @@ fn key_line(alloc: Global, rule: &str, key: &[u8]) -> Result<Vec<u8>, NoMemory>
 
 // The line of a valuation that does not lead on.
 fn unsatisfied(alloc: Global, name: &Option<Name>, reason: UnfitReason) -> Result<Vec<u8>, NoMemory>
-    ensures { IfOk result (λ text. text.items ≡ encoding_text (Encoding.Unsatisfied name.now reason)) }
+    ensures { IfOk result (λ text. text.items ≡ line (codes "refused: 41 Unsatisfied" ++ name_text name.now ++ codes " " ++ unfit_name reason)) }
 {
     let mut told = name_text(alloc, name)?;
     put_both(&mut told, b" ", unfit_name(reason).as_bytes())?;
@@ -168,19 +158,20 @@ fn unsatisfied(alloc: Global, name: &Option<Name>, reason: UnfitReason) -> Resul
 }
 
 // The text of what a JSON text is.
-fn output_text(alloc: Global, encoding: Encoding) -> Result<Vec<u8>, NoMemory>
-    ensures { IfOk result (λ text. text.items ≡ encoding_text encoding) }
+fn encoded_text(alloc: Global, encoded: Encoded, name: &Option<Name>) -> Result<Vec<u8>, NoMemory>
+    ensures { IfOk result (λ text. text.items ≡ encoded_text encoded name.now) }
 {
-    match encoding {
-        Encoding::Bytes(bytes) => Ok(bytes),
-        Encoding::NotJson => Ok(line_of(alloc, b"refused: 30 NotJson", b"", b"")?),
-        Encoding::NotObject => Ok(line_of(alloc, b"refused: 31 NotObject", b"", b"")?),
-        Encoding::UnknownField(key) => key_line(alloc, "32 UnknownField", &key),
-        Encoding::BadValue(key) => key_line(alloc, "33 BadValue", &key),
-        Encoding::Duplicate(key) => key_line(alloc, "34 Duplicate", &key),
-        Encoding::Unsatisfied(name, reason) => unsatisfied(alloc, &name, reason),
-        Encoding::Unused(name) => {
-            let name = name_text(alloc, &name)?;
+    match encoded {
+        Encoded::Bytes(bytes) => Ok(bytes),
+        Encoded::NotJson => Ok(line_of(alloc, b"refused: 30 NotJson", b"", b"")?),
+        Encoded::NotObject => Ok(line_of(alloc, b"refused: 31 NotObject", b"", b"")?),
+        Encoded::UnknownField(key) => key_line(alloc, "32 UnknownField", &key),
+        Encoded::BadValue(key) => key_line(alloc, "33 BadValue", &key),
+        Encoded::Duplicate(key) => key_line(alloc, "34 Duplicate", &key),
+        Encoded::TooLong => Ok(line_of(alloc, b"limit: input", b"", b"")?),
+        Encoded::Unsatisfied(_, reason) => unsatisfied(alloc, name, reason),
+        Encoded::Unused(_) => {
+            let name = name_text(alloc, name)?;
             Ok(line_of(alloc, b"refused: 42 Unused", &name, b"")?)
         }
     }
@@ -205,15 +196,13 @@ fn text_of(alloc: Global, answer: Answer) -> Result<Vec<u8>, NoMemory>
         }
         Answer::Refused(name, refusal) => Ok(refused(alloc, &name, &refusal)?),
         Answer::PackageLimit => Ok(line_of(alloc, b"limit: packages", b"", b"")?),
-        Answer::Unserved(name, refusal) => Ok(refused(alloc, &name, &refusal)?),
-        Answer::Broken(name, refusal) => Ok(refused(alloc, &name, &refusal)?),
         Answer::NoMessage(name, message) => unknown(alloc, &name, &message),
         Answer::Checked(reported) => Ok(reported.text),
         Answer::Rejected(reported) => Ok(reported.text),
         Answer::SourceFault => Ok(line_of(alloc, b"fault: source", b"", b"")?),
         Answer::InputLimit => Ok(line_of(alloc, b"limit: input", b"", b"")?),
-        Answer::Input(decoding) => input_text(alloc, decoding),
-        Answer::Output(encoding) => output_text(alloc, encoding),
+        Answer::Decoded(decoded, name) => decoded_text(alloc, decoded, &name),
+        Answer::Encoded(encoded, name) => encoded_text(alloc, encoded, &name),
     }
 }
 

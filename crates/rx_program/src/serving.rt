@@ -1,17 +1,16 @@
-//! What packages that were read answer.
-ghost use Rattle.std.specs.Prelude.{◌≡◌, ℕ, List, length, Some, None, IfOk, IfSome, Ok};
+//! What packages that were read answer: what they mean, the message that is asked for, and each command.
+ghost use Rattle.std.specs.Prelude.{◌≡◌, length, None, IfOk, IfErr, IfSome};
 ghost use Rattle.std.specs.Io.KnownBytes.{IsAtEnd};
 ghost use Rattle.rx_io.specs.Faults.{HasRisen};
-ghost use Rattle.rx_spec.specs.Elaboration.{elaborated, TellsOf};
-ghost use Rattle.rx_report.specs.Reported.{Passes};
+ghost use Rattle.rx_closure.specs.Closure.{ArePaired};
 ghost use Rattle.rx_program.specs.Words.{message_asked};
 ghost use Rattle.rx_program.specs.Asked.{does_of, ask_of};
-ghost use Rattle.rx_closure.specs.Closure.{ArePaired};
-ghost use Rattle.rx_program.specs.Stage.{AreServed, IsUnserved, IsWithin};
-ghost use Rattle.rx_program.specs.Input.{IsOfAll, IsOfInput, IsOfWhole};
-ghost use Rattle.rx_program.specs.Request.{Request, AreMeant, IsFound, AnswersTo, request_of, IsOfRequest};
+ghost use Rattle.rx_program.specs.Stage.{IsWithin, IsToldIn};
+ghost use Rattle.rx_program.specs.Heard.{IsOfMessages, IsEarly, IfAnswered, IsHeard};
+ghost use Rattle.rx_program.specs.Refusals.{IsRefusedFor, Means};
+ghost use Rattle.rx_program.specs.Request.{Serves, IsDenied, AnswersTo};
 
-use crate::answer::Answer;
+use crate::answer::{Answer, Early};
 use crate::fault::NoMemory;
 use crate::inputs::{read_input, write_input};
 use crate::operand::find_message;
@@ -20,184 +19,111 @@ use crate::words::{Ask, Does};
 use rx_checks::reports_show_soundness;
 use rx_closure::Packages;
 use rx_encode::all_are_named;
-use rx_forms::{Checkable, CheckableSpec};
-use rx_graph::{Elaborated, Sound};
+use rx_forms::CheckableSpec;
+use rx_graph::Sound;
 use rx_io::Source;
 use rx_report::{Examined, examine, report_package};
 use rx_spec::{ElabFault, elaborate};
 use rx_types::Name;
 use std::alloc::Global;
 
-// What the input is of a message whose checks pass.
-fn answer_input<I: Source>(
-    alloc: Global,
-    ask: &Ask,
-    packages: &Packages,
-    message: &Elaborated<'_>,
-    input: &mut I,
-) -> Result<Answer, NoMemory>
-    requires found { IsFound (request_of (ask_of ask.now) packages.now) message.now }
-    requires passes { Passes message.now.domains ask.now.splits message.now.graph }
-    ensures answers { IfOk result (λ answer. IfSome (I.left input.old) (λ left. AnswersTo (request_of (ask_of ask.now) packages.now) left answer)) }
-    ensures kind { IfOk result IsOfRequest }
-    ensures at_end { IfOk result (λ answer. IsOfWhole answer → IsAtEnd (I.left input.new)) }
-    ensures source_fault { result ≡ Ok Answer.SourceFault → HasRisen (I.faults input.old) (I.faults input.new) }
-    ensures one { IfOk result (λ answer. IsOfAll answer → ⊥) }
-    ensures unread { IfOk result (λ answer. (IsOfInput answer → ⊥) → input.new ≡ input.old) }
+// The answer where packages are refused.
+fn refused(alloc: Global, asked: &[Name], fault: ElabFault) -> Result<Answer, NoMemory>
+    requires { IsWithin (length asked.now) fault }
+    ensures { IfOk result (IsToldIn asked.now fault) }
 {
-    reports_show_soundness(message);
-    all_are_named(message);
-    let message = Sound::of(message);
-    match &ask.does {
-        Does::Checks => unreachable!(),
-        Does::Decodes(_) => read_input(alloc, &message, input),
-        Does::Encodes(_) => write_input(alloc, &message, input),
+    match fault {
+        ElabFault::Refused { package, refusal } => {
+            let file = asked[package].copy(alloc)?;
+            Ok(Answer::Refused(file, refusal))
+        }
+        ElabFault::NoMemory => Err(NoMemory),
     }
 }
 
-// What a message that was found and the input give.
-fn answer_message<I: Source>(
-    alloc: Global,
-    ask: &Ask,
-    packages: &Packages,
-    message: &Checkable<'_>,
-    input: &mut I,
-) -> Result<Answer, NoMemory>
-    requires found { IsFound (request_of (ask_of ask.now) packages.now) message.now }
-    ensures answers { IfOk result (λ answer. IfSome (I.left input.old) (λ left. AnswersTo (request_of (ask_of ask.now) packages.now) left answer)) }
-    ensures kind { IfOk result IsOfRequest }
-    ensures at_end { IfOk result (λ answer. IsOfWhole answer → IsAtEnd (I.left input.new)) }
-    ensures source_fault { result ≡ Ok Answer.SourceFault → HasRisen (I.faults input.old) (I.faults input.new) }
-    ensures one { IfOk result (λ answer. IsOfAll answer → ⊥) }
-    ensures unread { IfOk result (λ answer. (IsOfInput answer → ⊥) → input.new ≡ input.old) }
+/// What the packages mean.
+pub fn meaning_of(alloc: Global, packages: &Packages) -> Result<CheckableSpec, Early>
+    requires { ArePaired packages.now.asked.items packages.now.trees.items }
+    ensures means { IfOk result (Means packages.now.asked.items packages.now.trees.items) }
+    ensures refused { IfErr result (IsEarly (IsRefusedFor packages.now.asked.items packages.now.trees.items)) }
 {
-    let examined = examine(alloc, message, ask.splits)?;
-    match examined {
-        Examined::Accepted => answer_input(alloc, ask, packages, message.elaborated(), input),
-        Examined::Rejected(reported) => Ok(Answer::Rejected(reported)),
+    let asked = packages.asked.as_slice();
+    let trees = packages.trees.as_slice();
+    if let Err(fault) = all_served(alloc, trees) {
+        let answer = refused(alloc, asked, fault)?;
+        return Err(Early::Answer(answer));
+    }
+    match elaborate(alloc, asked, trees) {
+        Ok(spec) => Ok(CheckableSpec::of(spec)),
+        Err(fault) => {
+            let answer = refused(alloc, asked, fault)?;
+            Err(Early::Answer(answer))
+        }
     }
 }
 
-// What a message of this name and the input give.
-fn answer_named<I: Source>(
-    alloc: Global,
-    ask: &Ask,
-    name: &Name,
-    packages: &Packages,
-    spec: &CheckableSpec,
-    input: &mut I,
-) -> Result<Answer, NoMemory>
-    requires meant { AreMeant (request_of (ask_of ask.now) packages.now) spec.now }
-    requires name { message_asked (does_of ask.now.does) ≡ Some name.now }
-    ensures answers { IfOk result (λ answer. IfSome (I.left input.old) (λ left. AnswersTo (request_of (ask_of ask.now) packages.now) left answer)) }
-    ensures kind { IfOk result IsOfRequest }
-    ensures at_end { IfOk result (λ answer. IsOfWhole answer → IsAtEnd (I.left input.new)) }
-    ensures source_fault { result ≡ Ok Answer.SourceFault → HasRisen (I.faults input.old) (I.faults input.new) }
-    ensures one { IfOk result (λ answer. IsOfAll answer → ⊥) }
-    ensures unread { IfOk result (λ answer. (IsOfInput answer → ⊥) → input.new ≡ input.old) }
+// The answer where no message of the package has the name.
+fn no_message(alloc: Global, owner: &Name, name: &Name) -> Result<Answer, NoMemory>
+    ensures { IfOk result (λ answer. answer ≡ Answer.NoMessage owner.now name.now) }
 {
-    match find_message(spec, &ask.name, name) {
-        Some(message) => answer_message(alloc, ask, packages, &message, input),
-        None => no_message(alloc, ask, name),
-    }
-}
-
-// The answer where no message has the name.
-fn no_message(alloc: Global, ask: &Ask, name: &Name) -> Result<Answer, NoMemory>
-    ensures answer { IfOk result (λ answer. answer ≡ Answer.NoMessage ask.now.name name.now) }
-    ensures one { IfOk result (λ answer. IsOfAll answer → ⊥) }
-{
-    let owner = ask.name.copy(alloc)?;
+    let owner = owner.copy(alloc)?;
     let name = name.copy(alloc)?;
     Ok(Answer::NoMessage(owner, name))
 }
 
-// What the meaning of the packages and the input give.
-fn answer_spec<I: Source>(
+// The message of a name, all of whose checks pass.
+fn accepted<'s>(
     alloc: Global,
     ask: &Ask,
-    packages: &Packages,
+    name: &Name,
+    spec: &'s CheckableSpec,
+) -> Result<Sound<'s>, Early>
+    ensures types { IfOk result (λ message. message.domains ≡ spec.now.domains) }
+    ensures serves { IfOk result (λ message. Serves spec.now ask.now.name ask.now.splits name.now message.graph) }
+    ensures denied { IfErr result (IsEarly (IsDenied spec.now ask.now.name ask.now.splits name.now)) }
+{
+    let Some(message) = find_message(spec, &ask.name, name) else {
+        let answer = no_message(alloc, &ask.name, name)?;
+        return Err(Early::Answer(answer));
+    };
+    let examined = examine(alloc, &message, ask.splits)?;
+    match examined {
+        Examined::Accepted => {
+            let elaborated = message.elaborated();
+            reports_show_soundness(elaborated);
+            all_are_named(elaborated);
+            Ok(Sound::of(elaborated))
+        }
+        Examined::Rejected(reported) => Err(Early::Answer(Answer::Rejected(reported))),
+    }
+}
+
+/// What is asked for of the packages whose meaning this is. Each command is one case.
+pub fn serve<I: Source>(
+    alloc: Global,
+    ask: &Ask,
     spec: &CheckableSpec,
     input: &mut I,
-) -> Result<Answer, NoMemory>
-    requires { AreMeant (request_of (ask_of ask.now) packages.now) spec.now }
-    ensures answers { IfOk result (λ answer. IfSome (I.left input.old) (λ left. AnswersTo (request_of (ask_of ask.now) packages.now) left answer)) }
-    ensures kind { IfOk result IsOfRequest }
-    ensures at_end { IfOk result (λ answer. IsOfWhole answer → IsAtEnd (I.left input.new)) }
-    ensures source_fault { result ≡ Ok Answer.SourceFault → HasRisen (I.faults input.old) (I.faults input.new) }
-    ensures all { IfOk result (λ answer. IsOfAll answer → message_asked (does_of ask.now.does) ≡ None) }
+) -> Result<Answer, Early>
+    ensures answers { IfAnswered result (λ answer. IfSome (I.left input.old) (λ left. AnswersTo (ask_of ask.now) spec.now left answer)) }
+    ensures kind { IfAnswered result IsOfMessages }
+    ensures heard { IfAnswered result (IsHeard (message_asked (does_of ask.now.does) ≡ None) (input.new ≡ input.old) (IsAtEnd (I.left input.new)) (HasRisen (I.faults input.old) (I.faults input.new))) }
     ensures untouched { message_asked (does_of ask.now.does) ≡ None → input.new ≡ input.old }
-    ensures unread { IfOk result (λ answer. (IsOfInput answer → ⊥) → input.new ≡ input.old) }
 {
     match &ask.does {
         Does::Checks => {
             let reported = report_package(alloc, spec, &ask.name, ask.splits)?;
             Ok(Answer::Checked(reported))
         }
-        Does::Decodes(name) => answer_named(alloc, ask, name, packages, spec, input),
-        Does::Encodes(name) => answer_named(alloc, ask, name, packages, spec, input),
-    }
-}
-
-// The answer at a form that is not served yet.
-fn unserved(alloc: Global, asked: &[Name], fault: ElabFault) -> Result<Answer, NoMemory>
-    requires { IsWithin (length asked.now) fault }
-    ensures answers { IfOk result (λ answer. (r : Request) (left : List ℕ) → r.asked ≡ asked.now → IsUnserved r.trees fault → AnswersTo r left answer) }
-    ensures kind { IfOk result IsOfRequest }
-    ensures not_input { IfOk result (λ answer. IsOfWhole answer → ⊥) }
-    ensures not_source { result ≡ Ok Answer.SourceFault → ⊥ }
-    ensures one { IfOk result (λ answer. IsOfAll answer → ⊥) }
-{
-    match fault {
-        ElabFault::Refused { package, refusal } => {
-            let file = asked[package].copy(alloc)?;
-            Ok(Answer::Unserved(file, refusal))
+        Does::Decodes(name) => {
+            let message = accepted(alloc, ask, name, spec)?;
+            let answer = read_input(alloc, &message, input)?;
+            Ok(answer)
         }
-        ElabFault::NoMemory => Err(NoMemory),
-    }
-}
-
-// The answer at a rule that is broken.
-fn broken(alloc: Global, asked: &[Name], fault: ElabFault) -> Result<Answer, NoMemory>
-    requires { IsWithin (length asked.now) fault }
-    ensures answers { IfOk result (λ answer. (r : Request) (left : List ℕ) → r.asked ≡ asked.now → AreServed r.trees → TellsOf fault (elaborated r.asked r.trees) → AnswersTo r left answer) }
-    ensures kind { IfOk result IsOfRequest }
-    ensures not_input { IfOk result (λ answer. IsOfWhole answer → ⊥) }
-    ensures not_source { result ≡ Ok Answer.SourceFault → ⊥ }
-    ensures one { IfOk result (λ answer. IsOfAll answer → ⊥) }
-{
-    match fault {
-        ElabFault::Refused { package, refusal } => {
-            let file = asked[package].copy(alloc)?;
-            Ok(Answer::Broken(file, refusal))
+        Does::Encodes(name) => {
+            let message = accepted(alloc, ask, name, spec)?;
+            let answer = write_input(alloc, &message, input)?;
+            Ok(answer)
         }
-        ElabFault::NoMemory => Err(NoMemory),
-    }
-}
-
-/// What the packages and the input give.
-pub fn answer_packages<I: Source>(
-    alloc: Global,
-    ask: &Ask,
-    packages: &Packages,
-    input: &mut I,
-) -> Result<Answer, NoMemory>
-    requires { ArePaired packages.now.asked.items packages.now.trees.items }
-    ensures answers { IfOk result (λ answer. IfSome (I.left input.old) (λ left. AnswersTo (request_of (ask_of ask.now) packages.now) left answer)) }
-    ensures kind { IfOk result IsOfRequest }
-    ensures at_end { IfOk result (λ answer. IsOfWhole answer → IsAtEnd (I.left input.new)) }
-    ensures source_fault { result ≡ Ok Answer.SourceFault → HasRisen (I.faults input.old) (I.faults input.new) }
-    ensures all { IfOk result (λ answer. IsOfAll answer → message_asked (does_of ask.now.does) ≡ None) }
-    ensures untouched { message_asked (does_of ask.now.does) ≡ None → input.new ≡ input.old }
-    ensures unread { IfOk result (λ answer. (IsOfInput answer → ⊥) → input.new ≡ input.old) }
-{
-    let asked = packages.asked.as_slice();
-    let trees = packages.trees.as_slice();
-    if let Err(fault) = all_served(alloc, trees) {
-        return unserved(alloc, asked, fault);
-    }
-    match elaborate(alloc, asked, trees) {
-        Ok(spec) => answer_spec(alloc, ask, packages, &CheckableSpec::of(spec), input),
-        Err(fault) => broken(alloc, asked, fault),
     }
 }

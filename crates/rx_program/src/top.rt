@@ -1,66 +1,57 @@
 //! The top call.
-ghost use Rattle.std.specs.Prelude.{◌≡◌, ℕ, List, map, Some, None, IfOk, IfSome, Ok, string_bytes};
+ghost use Rattle.std.specs.Prelude.{◌≡◌, ℕ, List, map, IfOk, IfErr, IfSome, Ok, string_bytes};
 ghost use Rattle.std.specs.Io.KnownBytes.{Appends, IsAtEnd};
 ghost use Rattle.rx_io.specs.Faults.{HasRisen};
 ghost use Rattle.rx_io.specs.Shelf.{Texts, SameTexts};
-ghost use Rattle.rx_program.specs.Words.{message_asked, asked_for, HaveNoForm, HaveInput, HaveNoInput};
-ghost use Rattle.rx_program.specs.Asked.{does_of, ask_of};
+ghost use Rattle.rx_closure.specs.Closure.{ArePaired, IsClosure};
 ghost use Rattle.rx_closure.specs.Stop.{Stops};
-ghost use Rattle.rx_program.specs.Input.{IsOfAll, IsOfInput, IsOfWhole};
-ghost use Rattle.rx_program.specs.Answers.{Answers};
+ghost use Rattle.rx_program.specs.Words.{HaveNoForm, HaveInput, HaveNoInput};
+ghost use Rattle.rx_program.specs.Heard.{IsOfWalk, IsEarly, IfAnswered, IsTold, IsHeard, settled};
+ghost use Rattle.rx_program.specs.Answers.{EndsAt, Answers};
 ghost use Rattle.rx_program.specs.Outcome.{Outcome, MayRefuseWords, ReadsAll, LeavesInput};
 
-use crate::answer::Answer;
+use crate::answer::{Answer, Early};
 use crate::fault::NoMemory;
 use crate::print::print;
-use crate::serving::answer_packages;
+use crate::serving::{meaning_of, serve};
 use crate::status::Status;
-use crate::words::{Ask, read_words};
-use rx_closure::{Stop, close};
+use crate::words::read_words;
+use rx_closure::{Packages, Stop, close};
 use rx_io::{Shelf, Sink, Source};
 use rx_types::Name;
 use std::alloc::Global;
 
 // The answer where the walk from this package ends.
-fn stopped(name: Name, stop: Stop) -> Result<Answer, NoMemory>
-    ensures answers { IfOk result (λ answer. (texts : Texts) (left : List ℕ) (words : List (List ℕ)) (ask : Ask) → Stops texts name stop → asked_for words ≡ Some (ask_of ask) → ask.name ≡ name → Answers words texts left answer) }
-    ensures not_usage { result ≡ Ok Answer.Usage → ⊥ }
-    ensures not_input { IfOk result (λ answer. IsOfWhole answer → ⊥) }
-    ensures not_source { result ≡ Ok Answer.SourceFault → ⊥ }
-    ensures one { IfOk result (λ answer. IsOfAll answer → ⊥) }
+fn stopped(alloc: Global, name: &Name, stop: Stop) -> Result<Answer, NoMemory>
+    ensures ends { IfOk result (λ answer. (texts : Texts) → Stops texts name.now stop → EndsAt texts name.now answer) }
+    ensures kind { IfOk result IsOfWalk }
     ensures fault { result ≡ Ok Answer.ShelfFault → stop ≡ Stop.Fault }
 {
     match stop {
         Stop::Fault => Ok(Answer::ShelfFault),
-        Stop::NoPackage => Ok(Answer::NoPackage(name)),
-        Stop::TextLimit(name) => Ok(Answer::TextLimit(name)),
-        Stop::Refused(name, refusal) => Ok(Answer::Refused(name, refusal)),
+        Stop::NoPackage => Ok(Answer::NoPackage(name.copy(alloc)?)),
+        Stop::TextLimit(file) => Ok(Answer::TextLimit(file)),
+        Stop::Refused(file, refusal) => Ok(Answer::Refused(file, refusal)),
         Stop::PackageLimit => Ok(Answer::PackageLimit),
         Stop::NoMemory => Err(NoMemory),
     }
 }
 
-// What is asked for, the shelf and the input give.
-fn answer_ask<H: Shelf, I: Source>(
-    alloc: Global,
-    ask: Ask,
-    shelf: &mut H,
-    input: &mut I,
-) -> Result<Answer, NoMemory>
-    ensures answers { IfOk result (λ answer. IfSome (H.texts shelf.old) (λ texts. IfSome (I.left input.old) (λ left.
-        (words : List (List ℕ)) → asked_for words ≡ Some (ask_of ask) → Answers words texts left answer))) }
-    ensures not_usage { result ≡ Ok Answer.Usage → ⊥ }
+// The packages of the closure of this one.
+fn packages_of<H: Shelf>(alloc: Global, name: &Name, shelf: &mut H) -> Result<Packages, Early>
+    ensures closed { IfOk result (λ packages. IfSome (H.texts shelf.old) (λ texts. IsClosure texts name.now packages.asked.items packages.trees.items)) }
+    ensures paired { IfOk result (λ packages. ArePaired packages.asked.items packages.trees.items) }
+    ensures ends { IfErr result (IsEarly (λ answer. IfSome (H.texts shelf.old) (λ texts. EndsAt texts name.now answer))) }
+    ensures kind { IfErr result (IsEarly IsOfWalk) }
     ensures same { SameTexts (H.texts shelf.old) (H.texts shelf.new) }
-    ensures at_end { IfOk result (λ answer. IsOfWhole answer → IsAtEnd (I.left input.new)) }
-    ensures shelf_fault { result ≡ Ok Answer.ShelfFault → HasRisen (H.faults shelf.old) (H.faults shelf.new) }
-    ensures source_fault { result ≡ Ok Answer.SourceFault → HasRisen (I.faults input.old) (I.faults input.new) }
-    ensures all { IfOk result (λ answer. IsOfAll answer → message_asked (does_of ask.does) ≡ None) }
-    ensures untouched { message_asked (does_of ask.does) ≡ None → input.new ≡ input.old }
-    ensures unread { IfOk result (λ answer. (IsOfInput answer → ⊥) → input.new ≡ input.old) }
+    ensures cause { IfErr result (IsEarly (λ answer. answer ≡ Answer.ShelfFault → HasRisen (H.faults shelf.old) (H.faults shelf.new))) }
 {
-    match close(alloc, &ask.name, shelf) {
-        Ok(packages) => answer_packages(alloc, &ask, &packages, input),
-        Err(stop) => stopped(ask.name, stop),
+    match close(alloc, name, shelf) {
+        Ok(packages) => Ok(packages),
+        Err(stop) => {
+            let answer = stopped(alloc, name, stop)?;
+            Err(Early::Answer(answer))
+        }
     }
 }
 
@@ -70,21 +61,27 @@ fn answer<H: Shelf, I: Source>(
     words: &[String],
     shelf: &mut H,
     input: &mut I,
-) -> Result<Answer, NoMemory>
-    ensures answers { IfOk result (λ answer. IfSome (H.texts shelf.old) (λ texts. IfSome (I.left input.old) (λ left. Answers (map string_bytes words.now) texts left answer))) }
-    ensures usage { result ≡ Ok Answer.Usage → HaveNoForm (map string_bytes words.now) }
-    ensures no_form { HaveNoForm (map string_bytes words.now) → IfOk result (λ answer. answer ≡ Answer.Usage) }
+) -> Result<Answer, Early>
+    ensures answers { IfAnswered result (λ answer. IfSome (H.texts shelf.old) (λ texts. IfSome (I.left input.old) (λ left. Answers (map string_bytes words.now) texts left answer))) }
+    ensures told { IfAnswered result (IsTold (map string_bytes words.now) (HasRisen (H.faults shelf.old) (H.faults shelf.new))) }
+    ensures heard { IfAnswered result (IsHeard (HaveNoInput (map string_bytes words.now)) (input.new ≡ input.old) (IsAtEnd (I.left input.new)) (HasRisen (I.faults input.old) (I.faults input.new))) }
     ensures same { SameTexts (H.texts shelf.old) (H.texts shelf.new) }
-    ensures at_end { IfOk result (λ answer. IsOfWhole answer → IsAtEnd (I.left input.new)) }
-    ensures shelf_fault { result ≡ Ok Answer.ShelfFault → HasRisen (H.faults shelf.old) (H.faults shelf.new) }
-    ensures source_fault { result ≡ Ok Answer.SourceFault → HasRisen (I.faults input.old) (I.faults input.new) }
-    ensures all { IfOk result (λ answer. IsOfAll answer → HaveNoInput (map string_bytes words.now)) }
     ensures untouched { HaveNoInput (map string_bytes words.now) → input.new ≡ input.old }
-    ensures unread { IfOk result (λ answer. (IsOfInput answer → ⊥) → input.new ≡ input.old) }
 {
-    match read_words(alloc, words)? {
-        Some(ask) => answer_ask(alloc, ask, shelf, input),
-        None => Ok(Answer::Usage),
+    let ask = read_words(alloc, words)?;
+    let packages = packages_of(alloc, &ask.name, shelf)?;
+    let spec = meaning_of(alloc, &packages)?;
+    serve(alloc, &ask, &spec, input)
+}
+
+// An early answer is an answer.
+fn settled(ended: Result<Answer, Early>) -> Result<Answer, NoMemory>
+    ensures { result ≡ settled ended }
+{
+    match ended {
+        Ok(answer) => Ok(answer),
+        Err(Early::Answer(answer)) => Ok(answer),
+        Err(Early::NoMemory) => Err(NoMemory),
     }
 }
 
@@ -116,7 +113,7 @@ pub fn run<H: Shelf, I: Source, O: Sink>(
     ensures untouched { HaveNoInput (map string_bytes words.now) → input.new ≡ input.old }
     ensures unread { LeavesInput result (input.new ≡ input.old) }
 {
-    match answer(alloc, words, shelf, input) {
+    match settled(answer(alloc, words, shelf, input)) {
         Ok(answer) => print(alloc, answer, out),
         Err(NoMemory) => Status::NoMemory,
     }
