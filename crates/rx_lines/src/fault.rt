@@ -16,3 +16,9 @@ impl<T: Drop> From<AllocFailed<T>> for NoMemory {
         NoMemory
     }
 }
+
+impl From<rx_values::NoMemory> for NoMemory {
+    fn from(_: rx_values::NoMemory) -> Self {
+        NoMemory
+    }
+}

@@ -1,5 +1,5 @@
 //! Lines, put together from their parts.
-ghost use Rattle.std.specs.Prelude.{◌≡◌, [], ◌∷◌, ◌++◌, IfOk, OnOk};
+ghost use Rattle.std.specs.Prelude.{◌≡◌, [], ◌∷◌, ◌++◌, IfOk, OnOk, decimal};
 ghost use Rattle.rx_lines.specs.Lines.{file_of, name_text};
 
 use crate::fault::NoMemory;
@@ -20,6 +20,27 @@ pub fn put_both(line: &mut Vec<u8>, first: &[u8], second: &[u8]) -> Result<(), N
 {
     put(line, first)?;
     put(line, second)
+}
+
+/// Puts a number at the end.
+pub(crate) fn put_number(alloc: Global, line: &mut Vec<u8>, number: u64) -> Result<(), NoMemory>
+    ensures { OnOk result (line.new.items ≡ line.old.items ++ decimal number) }
+{
+    let digits = number.to_string(alloc)?;
+    put(line, digits.as_bytes())
+}
+
+/// Puts a number and then words at the end.
+pub fn put_counted(
+    alloc: Global,
+    line: &mut Vec<u8>,
+    number: u64,
+    words: &[u8],
+) -> Result<(), NoMemory>
+    ensures { OnOk result (line.new.items ≡ line.old.items ++ (decimal number ++ words.now)) }
+{
+    put_number(alloc, line, number)?;
+    put(line, words)
 }
 
 /// A line of these parts.

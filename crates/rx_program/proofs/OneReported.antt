@@ -10,7 +10,7 @@ use Rattle.rx_checks.specs.Reports.{HasPassed, AllPassed}
 use Rattle.rx_checks.specs.Laws.{IsSameVerdict, AreSameLines}
 use Rattle.rx_checks.proofs.OneReport.{are_one}
 use Rattle.rx_report.specs.declared.reported.Reported.{Reported}
-use Rattle.rx_report.specs.Lines.{Counts, none_counted, with_verdict, counted}
+use Rattle.rx_report.specs.Counts.{Counts, none_counted, with_verdict, counted}
 use Rattle.rx_report.specs.Reported.{counts_in, HasOpen, Passes, AreReports, all_counted, IsReported}
 use Rattle.rx_program.specs.Laws.{IsSameReport}
 

@@ -5,7 +5,7 @@ use Rattle.rx_checks.specs.declared.verdict.Verdict.{Verdict}
 use Rattle.rx_checks.specs.declared.verdict.Verdict.TheVariants.{Passed, Failed, Undecided}
 use Rattle.rx_checks.specs.declared.report.Line.{Line}
 use Rattle.rx_checks.specs.Reports.{AllPassed, HasPassed}
-use Rattle.rx_report.specs.Lines.{Counts, with_verdict, counted}
+use Rattle.rx_report.specs.Counts.{Counts, with_verdict, counted}
 
 -- one line more
 pub counted_more : (lines : List Line) (i : ℕ) (line : Line) (now new : Counts) → i < length lines → line ≡ get_or lines i line → new ≡ with_verdict line.verdict now → counted (drop (i + 1) lines) new ≡ counted (drop i lines) now

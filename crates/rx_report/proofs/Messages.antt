@@ -8,8 +8,9 @@ use Rattle.rx_graph.specs.Graph.{Graph}
 use Rattle.rx_graph.specs.Typed.{Typed, typed}
 use Rattle.rx_checks.specs.declared.report.Report.{Report}
 use Rattle.rx_checks.specs.Reports.{IsReport}
+use Rattle.rx_lines.specs.Reports.{lines_text}
 use Rattle.rx_report.specs.declared.reported.Reported.{Reported}
-use Rattle.rx_report.specs.Lines.{lines_text, Counts, none_counted, counted, closing_text}
+use Rattle.rx_report.specs.Counts.{Counts, none_counted, counted, closing_text}
 use Rattle.rx_report.specs.Reported.{messages_of, counts_in, all_counted, AreReports, all_lines, Adds, AddsIf, IsReported}
 
 all_counted_more : (rs : List Report) (r : Report) (c : Counts) → all_counted (rs ++ r ∷ []) c ≡ counted r.lines.items (all_counted rs c)

@@ -19,7 +19,7 @@ use Rattle.rx_checks.specs.Verdicts.{StandsFor}
 use Rattle.rx_checks.specs.Laws.{HasFailed, IsUndecided, HasBrokenCheck, HasLongWalk}
 use Rattle.rx_checks.proofs.Soundness.{show_soundness, true_verdicts, over_at, lines_are_goals}
 use Rattle.rx_report.specs.declared.reported.Reported.{Reported}
-use Rattle.rx_report.specs.Lines.{Counts, none_counted, with_verdict, counted}
+use Rattle.rx_report.specs.Counts.{Counts, none_counted, with_verdict, counted}
 use Rattle.rx_report.specs.Reported.{counts_in, AreReports, all_counted}
 use Rattle.rx_report.specs.Laws.{AnyOf, AreElaborated, AreSound, CountsTellSoundness}
 

@@ -1,4 +1,3 @@
+pub mod Counts
 pub mod Laws
-pub mod Lines
 pub mod Reported
-pub mod Subjects

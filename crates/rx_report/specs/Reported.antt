@@ -10,10 +10,11 @@ use Rattle.rx_types.specs.Domain.{Domain}
 use Rattle.rx_graph.specs.Graph.{Graph}
 use Rattle.rx_checks.specs.declared.report.Report.{Report}
 use Rattle.rx_checks.specs.Reports.{IsReport, AllPassed}
+use Rattle.rx_lines.specs.Reports.{lines_text}
 use Rattle.rx_report.specs.declared.reported.Reported.{Reported}
 use Rattle.rx_report.specs.declared.reported.Examined.{Examined}
 use Rattle.rx_report.specs.declared.reported.Examined.TheVariants.{Accepted, Rejected}
-use Rattle.rx_report.specs.Lines.{lines_text, Counts, none_counted, counted, closing_text}
+use Rattle.rx_report.specs.Counts.{Counts, none_counted, counted, closing_text}
 
 -- the messages of a package, whatever the case of the letters of its name, in order
 abbrev pub messages_of : List ℕ → List Graph → List Graph

@@ -24,8 +24,8 @@ impl From<rx_checks::NoMemory> for NoMemory {
     }
 }
 
-impl From<rx_values::NoMemory> for NoMemory {
-    fn from(_: rx_values::NoMemory) -> Self {
+impl From<rx_lines::NoMemory> for NoMemory {
+    fn from(_: rx_lines::NoMemory) -> Self {
         NoMemory
     }
 }

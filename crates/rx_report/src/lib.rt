@@ -4,14 +4,8 @@
 mod fault;
 mod laws;
 mod lines;
-mod path;
 mod reported;
 mod reporting;
-mod steps;
-mod subject;
-mod text;
-mod values;
-mod verdict;
 
 pub use fault::NoMemory;
 pub use laws::counts_tell_soundness;

@@ -2,12 +2,12 @@
 
 ghost use Rattle.std.specs.Prelude.{◌≡◌, ◌++◌, ◌<◌, ◌≤◌, OnOk, [], length};
 ghost use Rattle.rx_checks.specs.declared.verdict.Verdict.{Verdict};
-ghost use Rattle.rx_report.specs.Lines.{closing_text, none_counted, with_verdict};
+ghost use Rattle.rx_report.specs.Counts.{closing_text, none_counted, with_verdict};
 ghost use Rattle.rx_report.specs.Reported.{counts_in, total_in};
 
 use crate::fault::NoMemory;
-use crate::text::put_counted;
 use rx_checks::Verdict;
+use rx_lines::put_counted;
 use std::alloc::Global;
 
 /// A line for each check of some messages and a last line, and how many checks passed, failed and are undecided.
@@ -61,6 +61,7 @@ impl Reported {
     {
         put_counted(alloc, &mut self.text, self.passed, b" passed, ")?;
         put_counted(alloc, &mut self.text, self.failed, b" failed, ")?;
-        put_counted(alloc, &mut self.text, self.undecided, b" undecided\n")
+        put_counted(alloc, &mut self.text, self.undecided, b" undecided\n")?;
+        Ok(())
     }
 }

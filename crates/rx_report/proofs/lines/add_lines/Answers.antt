@@ -1,5 +1,5 @@
 use Rattle.std.proofs.Common.{◌∙◌}
-use Rattle.rx_report.specs.Lines.{line_text}
+use Rattle.rx_lines.specs.Reports.{line_text}
 use Rattle.rx_report.specs.Reported.{counts_in}
 use Rattle.rx_report.proofs.Counting.{counted_more}
 use Rattle.rx_report.proofs.Texts.{text_more}

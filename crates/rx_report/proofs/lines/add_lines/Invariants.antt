@@ -1,5 +1,6 @@
 use Rattle.std.proofs.Common.{◌≡◌, ◌≤◌, ◌++◌, length, drop}
-use Rattle.rx_report.specs.Lines.{counted, lines_text}
+use Rattle.rx_lines.specs.Reports.{lines_text}
+use Rattle.rx_report.specs.Counts.{counted}
 use Rattle.rx_report.specs.Reported.{counts_in, total_in}
 use Rattle.rx_report.proofs.lines.add_lines.Given as goal
 

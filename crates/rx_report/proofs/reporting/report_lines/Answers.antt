@@ -1,7 +1,8 @@
 use Rattle.std.proofs.Common.{◌∙◌, sym, ap, subst, [], ◌++◌, List}
 use Rattle.rx_checks.specs.declared.report.Line.{Line}
 use Rattle.rx_graph.specs.Typed.{Typed}
-use Rattle.rx_report.specs.Lines.{counted, lines_text}
+use Rattle.rx_lines.specs.Reports.{lines_text}
+use Rattle.rx_report.specs.Counts.{counted}
 use Rattle.rx_report.specs.Reported.{counts_in}
 use Rattle.rx_report.proofs.Counting.{IsOpen, open_unless_passed}
 use Rattle.rx_report.proofs.Messages.{told_none, told_more, told_whole}

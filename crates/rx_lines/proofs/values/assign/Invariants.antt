@@ -1,7 +1,7 @@
 use Rattle.std.proofs.Common.{◌≡◌, ◌++◌, drop}
-use Rattle.rx_report.specs.Subjects.{number_among, values_from}
-use Rattle.rx_report.proofs.Numbers.{AllBelow}
-use Rattle.rx_report.proofs.values.assign.Given as goal
+use Rattle.rx_lines.specs.Subjects.{number_among, values_from}
+use Rattle.rx_lines.proofs.Numbers.{AllBelow}
+use Rattle.rx_lines.proofs.values.assign.Given as goal
 
 -- the fields so far, with those that are left
 abbrev pub invariant-loop-place : goal.invariant-loop-place

@@ -2,7 +2,7 @@
 
 ghost use Rattle.std.specs.Prelude.{◌≡◌, ◌<◌, ◌++◌, ◌==◌, IfOk, position, slice_get};
 ghost use Rattle.std.specs.List.{AllByRecursion};
-ghost use Rattle.rx_report.specs.Subjects.{assigned_if, number_among, scalar_at, scalar_behind, scalars_of, values_along, values_from};
+ghost use Rattle.rx_lines.specs.Subjects.{assigned_if, number_among, scalar_at, scalar_behind, scalars_of, values_along, values_from};
 
 use crate::fault::NoMemory;
 use rx_graph::{Elaborated, Node};

@@ -2,7 +2,7 @@ use Rattle.std.proofs.Common.{◌≡◌, ◌+◌, ◌≤◌, drop}
 use Rattle.std.specs.List.{count_by}
 use Rattle.rx_graph.specs.Graph.{arrows}
 use Rattle.rx_graph.specs.Checks.{is_node}
-use Rattle.rx_report.proofs.path.count_from.Given as goal
+use Rattle.rx_lines.proofs.path.count_from.Given as goal
 
 -- those that are left are counted on top
 abbrev pub invariant-loop-link : goal.invariant-loop-link

@@ -3,13 +3,13 @@
 ghost use Rattle.std.specs.Prelude.{◌≡◌, ◌++◌, OnOk, codes, decimal, length};
 ghost use Rattle.rx_values.specs.Printing.{json_text};
 ghost use Rattle.rx_checks.specs.Steps.{total_steps};
-ghost use Rattle.rx_report.specs.Subjects.{path_text, values_along};
-ghost use Rattle.rx_report.specs.Lines.{evidence_text, verdict_text};
+ghost use Rattle.rx_lines.specs.Subjects.{path_text, values_along};
+ghost use Rattle.rx_lines.specs.Reports.{evidence_text, verdict_text};
 
 use crate::fault::NoMemory;
+use crate::line::{put, put_counted};
 use crate::path::put_path;
 use crate::steps::total_steps;
-use crate::text::{put, put_counted};
 use crate::values::values_along;
 use rx_checks::{Evidence, Verdict};
 use rx_graph::Elaborated;

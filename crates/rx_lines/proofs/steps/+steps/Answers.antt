@@ -1,8 +1,8 @@
 use Rattle.std.proofs.Common.{◌∙◌, sym, ap, arith}
 use Rattle.std.proofs.lemmas.Grind.{common_steps}
 use Rattle.rx_checks.specs.Steps.{steps_of, total_steps}
-use Rattle.rx_report.proofs.Stepping.{steps_close, steps_halve, steps_case, total_more}
-use Rattle.rx_report.proofs.steps.+steps.Goals as goal
+use Rattle.rx_lines.proofs.Stepping.{steps_close, steps_halve, steps_case, total_more}
+use Rattle.rx_lines.proofs.steps.+steps.Goals as goal
 
 pub total_steps-loop-proof-preserved : goal.total_steps-loop-proof-preserved
 total_steps-loop-proof-preserved t c =

@@ -2,9 +2,9 @@ use Rattle.std.proofs.Common.{◌∙◌, ◌+◌, sym, ap, List, ℕ, slice_get,
 use Rattle.std.specs.List.{count_by}
 use Rattle.rx_graph.specs.Checks.{is_node}
 use Rattle.rx_graph.specs.Graph.{Arrow, arrow_of}
-use Rattle.rx_report.specs.Subjects.{number_if_any}
-use Rattle.rx_report.proofs.Links.{within_links}
-use Rattle.rx_report.proofs.path.link_number.Goals as goal
+use Rattle.rx_lines.specs.Subjects.{number_if_any}
+use Rattle.rx_graph.proofs.Memory.{within_links}
+use Rattle.rx_lines.proofs.path.link_number.Goals as goal
 
 pub count_before-before-requires : goal.count_before-before-requires
 count_before-before-requires c =

@@ -1,6 +1,6 @@
 use Rattle.std.proofs.Common.{◌≡◌, ◌++◌, drop}
-use Rattle.rx_report.specs.Subjects.{scalars_of}
-use Rattle.rx_report.proofs.values.scalars_of.Given as goal
+use Rattle.rx_lines.specs.Subjects.{scalars_of}
+use Rattle.rx_lines.proofs.values.scalars_of.Given as goal
 
 -- the scalars so far, with those of the links that are left
 abbrev pub invariant-loop-place : goal.invariant-loop-place

@@ -1,8 +1,8 @@
 use Rattle.std.proofs.Common.{◌∙◌, sym, ap, subst, ℕ, ◌+◌, ◌<◌, ◌++◌, length, List, Option, arith}
 use Rattle.rx_graph.specs.declared.message.Field.{Field}
-use Rattle.rx_report.specs.Subjects.{assigned_if, number_among}
-use Rattle.rx_report.proofs.Numbers.{AllBelow, values_more, below_more}
-use Rattle.rx_report.proofs.values.assign.Goals as goal
+use Rattle.rx_lines.specs.Subjects.{assigned_if, number_among}
+use Rattle.rx_lines.proofs.Numbers.{AllBelow, values_more, below_more}
+use Rattle.rx_lines.proofs.values.assign.Goals as goal
 
 pub loop-place-preserved : goal.loop-place-preserved
 loop-place-preserved c =

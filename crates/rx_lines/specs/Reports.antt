@@ -1,9 +1,7 @@
 -- The lines of a report.
 --   evidence_text, verdict_text    what became of a check, and what shows it
 --   line_text, lines_text          a check with its verdict, and all of a message
---   Counts, counted                how many checks passed, failed and are undecided
---   closing_text                   the last line
-use Rattle.std.specs.Prelude.{ℕ, ◌+◌, List, [], ◌∷◌, ◌++◌, length, codes, decimal}
+use Rattle.std.specs.Prelude.{ℕ, List, [], ◌∷◌, ◌++◌, length, codes, decimal}
 use Rattle.std.specs.List.{flat_map}
 use Rattle.rx_types.specs.Domain.{Domain}
 use Rattle.rx_graph.specs.Graph.{Graph}
@@ -14,7 +12,7 @@ use Rattle.rx_checks.specs.declared.verdict.Evidence.TheVariants.{Proofs, Found}
 use Rattle.rx_checks.specs.declared.verdict.Verdict.{Verdict}
 use Rattle.rx_checks.specs.declared.verdict.Verdict.TheVariants.{Passed, Failed, Undecided}
 use Rattle.rx_checks.specs.declared.report.Line.{Line}
-use Rattle.rx_report.specs.Subjects.{check_name, subject_text, path_text, values_along}
+use Rattle.rx_lines.specs.Subjects.{check_name, subject_text, path_text, values_along}
 
 module _ (domains : List Domain) (m : Graph) where
   -- ` by N proofs of S steps`, or ` on PATH length L JSON`
@@ -35,26 +33,3 @@ module _ (domains : List Domain) (m : Graph) (splits : ℕ) where
 
   abbrev pub lines_text : List Line → List ℕ
   lines_text lines = flat_map line_text lines
-
--- ---- counts
-
-pub record Counts : Type 0 where
-  pub passed : ℕ
-  pub failed : ℕ
-  pub undecided : ℕ
-
-abbrev pub none_counted : Counts
-none_counted = record { passed = 0; failed = 0; undecided = 0 }
-
-abbrev pub with_verdict : Verdict → Counts → Counts
-with_verdict (Passed evidence) c = record c { passed = c.passed + 1 }
-with_verdict (Failed evidence) c = record c { failed = c.failed + 1 }
-with_verdict (Undecided path tree) c = record c { undecided = c.undecided + 1 }
-
-abbrev pub counted : List Line → Counts → Counts
-counted [] c = c
-counted (line ∷ lines) c = counted lines (with_verdict line.verdict c)
-
--- `A passed, B failed, C undecided`
-abbrev pub closing_text : Counts → List ℕ
-closing_text c = decimal c.passed ++ codes " passed, " ++ decimal c.failed ++ codes " failed, " ++ decimal c.undecided ++ codes " undecided" ++ 10 ∷ []

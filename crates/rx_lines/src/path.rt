@@ -4,10 +4,10 @@ ghost use Rattle.std.specs.Prelude.{◌≡◌, ◌≤◌, ◌++◌, OnOk, count_
 ghost use Rattle.std.specs.List.{flat_map};
 ghost use Rattle.rx_graph.specs.Checks.{is_node};
 ghost use Rattle.rx_graph.specs.Graph.{arrows};
-ghost use Rattle.rx_report.specs.Subjects.{link_number, path_text, step_text};
+ghost use Rattle.rx_lines.specs.Subjects.{link_number, path_text, step_text};
 
 use crate::fault::NoMemory;
-use crate::text::{put, put_number};
+use crate::line::{put, put_number};
 use rx_graph::{Elaborated, Link, Node};
 use std::alloc::Global;
 

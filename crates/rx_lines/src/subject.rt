@@ -3,10 +3,10 @@
 ghost use Rattle.std.specs.Prelude.{◌≡◌, ◌++◌, OnOk, codes, decimal};
 ghost use Rattle.rx_layout.specs.declared.goal.Goal.{Goal};
 ghost use Rattle.rx_values.specs.Printing.{name_of};
-ghost use Rattle.rx_report.specs.Subjects.{check_name, link_text, node_text, subject_text};
+ghost use Rattle.rx_lines.specs.Subjects.{check_name, link_text, node_text, subject_text};
 
 use crate::fault::NoMemory;
-use crate::text::{put, put_number};
+use crate::line::{put, put_number};
 use rx_graph::{Elaborated, Node};
 use rx_layout::Goal;
 use rx_types::FieldId;

@@ -1,8 +1,8 @@
 use Rattle.std.proofs.Common.{◌∙◌, sym, ap, ◌++◌, Option, ℕ}
 use Rattle.rx_graph.specs.Fits.{Number}
-use Rattle.rx_report.specs.Subjects.{assigned_if}
-use Rattle.rx_report.proofs.Numbers.{content_none, inserted_last}
-use Rattle.rx_report.proofs.values.with_number.Goals as goal
+use Rattle.rx_lines.specs.Subjects.{assigned_if}
+use Rattle.rx_lines.proofs.Numbers.{content_none, inserted_last}
+use Rattle.rx_lines.proofs.values.with_number.Goals as goal
 
 pub put-requires : goal.put-requires
 put-requires c = content_none c.args.field c.args.values c.requires

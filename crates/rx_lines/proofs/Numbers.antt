@@ -6,7 +6,7 @@ use Rattle.std.proofs.lemmas.List.{append_assoc, drop_more}
 use Rattle.rx_graph.specs.declared.message.Field.{Field}
 use Rattle.rx_graph.specs.Fits.{Content, Assigned, content_of}
 use Rattle.rx_values.specs.Valuation.{inserted}
-use Rattle.rx_report.specs.Subjects.{assigned_if, values_from}
+use Rattle.rx_lines.specs.Subjects.{assigned_if, values_from}
 
 -- all ids are below f
 abbrev pub AllBelow : ℕ → List Assigned → Type 0

@@ -1,7 +1,7 @@
 use Rattle.std.proofs.Common.{◌≡◌, ◌++◌, drop}
 use Rattle.std.specs.List.{flat_map}
-use Rattle.rx_report.specs.Subjects.{step_text}
-use Rattle.rx_report.proofs.path.put_steps.Given as goal
+use Rattle.rx_lines.specs.Subjects.{step_text}
+use Rattle.rx_lines.proofs.path.put_steps.Given as goal
 
 -- the text with the links that are left is the whole text
 abbrev pub invariant-loop-place : goal.invariant-loop-place
