@@ -1,5 +1,6 @@
 -- What a goal asks at the end of a path, step by step.
-use Rattle.std.proofs.Common.{◌≡◌, refl, sym, ap, ◌∙◌, subst, ℕ, ◌+◌, ◌≤◌, arith, true, nat_le, map, length, List, [], ◌∷◌, ◌++◌, append_assoc, append-nil, Option, Some, None}
+use Rattle.std.proofs.Common.{◌≡◌, refl, sym, ap, ◌∙◌, subst, ℕ, zero, suc, ◌+◌, ◌-◌, ◌≤◌, arith, true, nat_le, map, take, length, get_or, List, [], ◌∷◌, ◌++◌, append_assoc, append-nil, Option, Some, None}
+use Rattle.std.proofs.lemmas.Option.{slice_get-get_or}
 use Rattle.rx_types.specs.Domain.{Domain}
 use Rattle.rx_types.specs.Tree.{Tree}
 use Rattle.rx_graph.specs.declared.message.Node.{Node}
@@ -8,7 +9,7 @@ use Rattle.rx_graph.proofs.Unique.{some_same}
 use Rattle.rx_forms.specs.declared.linear.Linear.{Linear}
 use Rattle.rx_forms.specs.declared.linear.Form.{Form, All, Any}
 use Rattle.rx_forms.specs.declared.field.FieldForms.{FieldForms}
-use Rattle.rx_forms.specs.Code.{formed_all}
+use Rattle.rx_forms.specs.Code.{formed, formed_all}
 use Rattle.rx_linear.proofs.Joining.{both}
 use Rattle.rx_forms.specs.Linear.{minus, above}
 use Rattle.rx_forms.specs.Limits.{is_within}
@@ -17,6 +18,7 @@ use Rattle.rx_forms.specs.Normal.{Formed, condition, divisions_in, bits}
 use Rattle.rx_forms.specs.Divisions.{divisions}
 use Rattle.rx_forms.specs.Steps.{form_or, target_field, size_aspect, divisions_any, divisions_in_any, first_form, size_form, end_form}
 use Rattle.rx_forms.specs.Fronts.{Front, after_end}
+use Rattle.rx_forms.proofs.Aspects.{end_of_last}
 use Rattle.rx_layout.specs.Goals.{HasLink, LeadsToBytes}
 use Rattle.rx_layout.proofs.Numbered.{numbered_found}
 use Rattle.rx_layout.specs.QueryOf
@@ -176,6 +178,24 @@ pub cover_many : (fs : List FieldForms) (first : Linear) (branches all : List Fo
 cover_many [] first branches all before h e k g = absurd (omega (arith, h))
 cover_many (f ∷ fs) first branches all before h e k g =
     ap (λ (xs : List Form). Any xs) (g ∙ ap (λ (xs : List Form). xs ++ before ∷ []) e ∙ ap (λ (x : Form). map (λ y. above y.end first) (formed_all (f ∷ fs)) ++ x ∷ []) k)
+
+formed_length : (fs : List FieldForms) → length (formed_all fs) ≡ length fs
+formed_length [] = refl
+formed_length (f ∷ fs) = ap suc (formed_length fs)
+
+formed_front : (n : ℕ) (fs : List FieldForms) → formed_all (take n fs) ≡ take n (formed_all fs)
+formed_front zero fs = refl
+formed_front (suc n) [] = refl
+formed_front (suc n) (f ∷ fs) = ap (λ (gs : List Formed). formed f ∷ gs) (formed_front n fs)
+
+pub null_many : (fs : List FieldForms) (last : FieldForms) (branches : List Form) → 1 ≤ length fs → last ≡ get_or fs (length fs - 1) last → branches ≡ map (λ f. above f.end last.end) (formed_all (take (length fs - 1) fs))
+    → Any branches ≡ null_formula (formed_all fs)
+null_many fs last branches h is e =
+    let end = end_of_last fs last (slice_get-get_or fs (length fs - 1) last (omega (arith, h)) ∙ ap Some (sym is)) in
+    let before = formed_front (length fs - 1) fs ∙ ap (λ (n : ℕ). take (n - 1) (formed_all fs)) (sym (formed_length fs)) in
+    ap (λ (xs : List Form). Any xs)
+    (e ∙ ap (λ (x : Linear). map (λ f. above f.end x) (formed_all (take (length fs - 1) fs))) (sym end)
+    ∙ ap (λ (gs : List Formed). map (λ f. above f.end (end_form (formed_all fs))) gs) before)
 
 -- the link of a goal that speaks of bytes leads to bytes
 pub bytes_type : (domains : List Domain) (m : Graph) (node : Node) (n : ℕ) (a : Arrow) → HasLink domains m node n (LeadsToBytes domains m) → QueryOf.link_numbered m node n ≡ Some a → type_of domains m (target_field a.target) ≡ None

@@ -1,5 +1,5 @@
 -- The formula of each goal holds at a point exactly where the numbers of its sums break the goal.
-use Rattle.std.proofs.Common.{◌≡◌, refl, sym, ap, ◌∙◌, ℕ, ◌+◌, arith, List, [], ◌∷◌, ◌++◌, map, true, false, get_or, ℤ, pos, ◌+ℤ◌, ◌-ℤ◌, ◌*ℤ◌, ◌<ℤ◌, ◌≤ℤ◌, ◌⊎◌, inl, inr}
+use Rattle.std.proofs.Common.{◌≡◌, refl, sym, ap, ◌∙◌, subst, ℕ, zero, suc, ◌+◌, ◌-◌, arith, List, [], ◌∷◌, ◌++◌, map, take, length, true, false, get_or, ℤ, pos, ◌+ℤ◌, ◌-ℤ◌, ◌*ℤ◌, ◌<ℤ◌, ◌≤ℤ◌, ◌⊎◌, inl, inr}
 use Rattle.std.specs.List.{AllByRecursion}
 use Rattle.std.specs.Int.{int_max, int_div_euclid}
 use Rattle.std.proofs.lemmas.Int.{ints, clamps, by_lt_z}
@@ -16,7 +16,7 @@ use Rattle.rx_forms.proofs.Sums.{at_minus, at_term, at_constant}
 use Rattle.rx_forms.proofs.Quotients.{from_le, to_le}
 use Rattle.rx_forms.proofs.Conditions.{meets_at_least, meets_above}
 use Rattle.rx_layout.specs.Goals.{IsNoMultipleOf8}
-use Rattle.rx_layout.specs.QueryOf.{position_formula, no_multiple, grid_formula, cover_formula}
+use Rattle.rx_layout.specs.QueryOf.{position_formula, no_multiple, grid_formula, cover_formula, before_last}
 use Rattle.rx_layout.proofs.Lists.{meet_all, meet_one, meets_all, meets_any, one_true, left_true, right_true}
 
 -- ---- comparisons
@@ -245,15 +245,49 @@ module _ (point : List ℤ) where
   last_inside (p ∷ []) w = w.0
   last_inside (p ∷ q ∷ ps) w = last_inside (q ∷ ps) w.1
 
-  pub null_is : (gs : List Formed) (ps : List Placed) (end : Linear) → Matches point gs ps → at end point ≡ end_of ps → meets (Any (map (λ f. above f.end end) gs)) point ≡ true → end_of ps ≡ covered ps → ⊥
-  null_is gs ps end match p h e =
-      let a = after_one gs ps end (end_of ps) match p (sym (meets_any (map (λ f. above f.end end) gs) point) ∙ h) in omega (arith, ints)
+  before_more : (g k : Formed) (gs : List Formed) → before_last (g ∷ k ∷ gs) ≡ g ∷ before_last (k ∷ gs)
+  before_more g k gs = let e : length (g ∷ k ∷ gs) - 1 ≡ suc (length (k ∷ gs) - 1) = omega arith in ap (λ (n : ℕ). take n (g ∷ k ∷ gs)) e
 
-  pub is_null : (gs : List Formed) (ps : List Placed) (end : Linear) → Matches point gs ps → EndsInside ps → at end point ≡ end_of ps → (end_of ps ≡ covered ps → ⊥) → meets (Any (map (λ f. above f.end end) gs)) point ≡ true
+  -- a branch of some first fields is one of all
+  from_front : (n : ℕ) (gs : List Formed) (end : Linear) → meet_one point (map (λ f. above f.end end) (take n gs)) ≡ true → meet_one point (map (λ f. above f.end end) gs) ≡ true
+  from_front zero gs end h = absurd (cc)
+  from_front (suc n) [] end h = h
+  from_front (suc n) (g ∷ gs) end h =
+      by_either (one_true (meets (above g.end end) point) (meet_one point (map (λ f. above f.end end) (take n gs))) h)
+      (λ t. left_true (meets (above g.end end) point) (meet_one point (map (λ f. above f.end end) gs)) t)
+      (λ t. right_true (meets (above g.end end) point) (meet_one point (map (λ f. above f.end end) gs)) (from_front n gs end t))
+
+  -- the last field would be no branch, since its end is not above itself
+  no_last : (gs : List Formed) (ps : List Placed) (end : Linear) → Matches point gs ps → at end point ≡ end_of ps → meet_one point (map (λ f. above f.end end) gs) ≡ true → meet_one point (map (λ f. above f.end end) (before_last gs)) ≡ true
+  no_last [] [] end match p h = absurd (cc)
+  no_last [] (q ∷ ps) end match p h = absurd match
+  no_last (g ∷ gs) [] end match p h = absurd match
+  no_last (g ∷ []) (q ∷ []) end match p h =
+      by_either (one_true (meets (above g.end end) point) false h)
+      (λ t. let a = above_is g.end end (q.first +ℤ q.size) (q.first +ℤ q.size) match.1.end p t in absurd (omega (arith, ints)))
+      (λ t. absurd (no t))
+    where
+      no : false ≡ true → ⊥
+      no e = cc
+  no_last (g ∷ []) (q ∷ r ∷ ps) end match p h = absurd match.2
+  no_last (g ∷ k ∷ gs) (q ∷ []) end match p h = absurd match.2
+  no_last (g ∷ k ∷ gs) (q ∷ r ∷ ps) end match p h =
+      let before = meet_one point (map (λ f. above f.end end) (before_last (k ∷ gs))) in
+      subst (λ (fs : List Formed). meet_one point (map (λ f. above f.end end) fs) ≡ true) (sym (before_more g k gs))
+      (by_either (one_true (meets (above g.end end) point) (meet_one point (map (λ f. above f.end end) (k ∷ gs))) h)
+      (λ t. left_true (meets (above g.end end) point) before t)
+      (λ t. right_true (meets (above g.end end) point) before (no_last (k ∷ gs) (r ∷ ps) end match.2 p t)))
+
+  pub null_is : (gs : List Formed) (ps : List Placed) (end : Linear) → Matches point gs ps → at end point ≡ end_of ps → meets (Any (map (λ f. above f.end end) (before_last gs))) point ≡ true → end_of ps ≡ covered ps → ⊥
+  null_is gs ps end match p h e =
+      let some = from_front (length gs - 1) gs end (sym (meets_any (map (λ f. above f.end end) (before_last gs)) point) ∙ h) in
+      let a = after_one gs ps end (end_of ps) match p some in omega (arith, ints)
+
+  pub is_null : (gs : List Formed) (ps : List Placed) (end : Linear) → Matches point gs ps → EndsInside ps → at end point ≡ end_of ps → (end_of ps ≡ covered ps → ⊥) → meets (Any (map (λ f. above f.end end) (before_last gs))) point ≡ true
   is_null gs ps end match w p h =
-      meets_any (map (λ f. above f.end end) gs) point
-      ∙ by_either (one_after gs ps end (end_of ps) match p (strictly (end_of ps) (covered ps) (last_covered ps) h)) (λ t. t)
-      (λ n. absurd (let i = last_inside ps w in omega (arith, ints)))
+      meets_any (map (λ f. above f.end end) (before_last gs)) point
+      ∙ no_last gs ps end match p (by_either (one_after gs ps end (end_of ps) match p (strictly (end_of ps) (covered ps) (last_covered ps) h)) (λ t. t)
+      (λ n. absurd (let i = last_inside ps w in omega (arith, ints))))
     where
       strictly : (x y : ℤ) → x ≤ℤ y → (x ≡ y → ⊥) → x <ℤ y
       strictly x y l n = by_lt_z x y (λ s. s) (λ s. absurd (n (omega (arith, ints, l, s))))

@@ -1,5 +1,5 @@
 -- The formulas of goals fit a system.
-use Rattle.std.proofs.Common.{◌≡◌, refl, ◌∙◌, ℕ, ◌+◌, ◌<◌, ◌^◌, arith, List, [], ◌∷◌, ◌++◌, map, true, ℤ, pos, negsuc, neg_ℤ, ◌*ℤ◌, ◌+ℤ◌, unsigned_abs}
+use Rattle.std.proofs.Common.{◌≡◌, refl, ◌∙◌, ℕ, zero, suc, ◌+◌, ◌-◌, ◌<◌, ◌^◌, arith, List, [], ◌∷◌, ◌++◌, map, take, length, true, ℤ, pos, negsuc, neg_ℤ, ◌*ℤ◌, ◌+ℤ◌, unsigned_abs}
 use Rattle.std.proofs.lemmas.Int.{ints}
 use Rattle.std.specs.Int.{int_div_euclid}
 use Rattle.std.specs.List.{list_all, AllByRecursion}
@@ -13,7 +13,7 @@ use Rattle.rx_forms.specs.Linear.{constant, term, minus, less_one, above, unequa
 use Rattle.rx_forms.specs.Normal.{Formed}
 use Rattle.rx_forms.specs.Steps.{end_form}
 use Rattle.rx_layout.specs.Fitting.{fits, fits_row}
-use Rattle.rx_layout.specs.QueryOf.{position_formula, grid_formula, cover_formula, null_formula, no_multiple, unit_rows}
+use Rattle.rx_layout.specs.QueryOf.{position_formula, grid_formula, cover_formula, before_last, null_formula, no_multiple, unit_rows}
 use Rattle.rx_layout.proofs.Gathered.{fits_at_least, fits_all, fits_any}
 use Rattle.rx_layout.proofs.Stepping.{term_length}
 use Rattle.rx_layout.proofs.Bounds.{weighted_width, less_term_under, fits_by, IsLowTo, above_fits}
@@ -69,8 +69,15 @@ cover_fits n (g ∷ gs) first h l =
     fits_any n (after ++ All before ∷ []) ∙ list_all-append (fits n) after (All before ∷ [])
     ∙ and_true (each_after n (g ∷ gs) first h l) (and_true (fits_all n before ∙ each_before n (g ∷ gs) first h l) refl)
 
+first_low : (n k : ℕ) (fields : List Formed) → AllByRecursion (λ g. AreLowTo n g) fields → AllByRecursion (λ g. AreLowTo n g) (take k fields)
+first_low n zero fields h = tt
+first_low n (suc k) [] h = tt
+first_low n (suc k) (g ∷ gs) h = (h.0, first_low n k gs h.1)
+
 pub null_fits : (n : ℕ) (fields : List Formed) → AllByRecursion (λ g. AreLowTo n g) fields → fits n (null_formula fields) ≡ true
-null_fits n fields h = fits_any n (map (λ f. above f.end (end_form fields)) fields) ∙ each_after n fields (end_form fields) h (end_low n fields h)
+null_fits n fields h =
+    fits_any n (map (λ f. above f.end (end_form fields)) (before_last fields))
+    ∙ each_after n (before_last fields) (end_form fields) (first_low n (length fields - 1) fields h) (end_low n fields h)
 
 pub units_fit : (n q : ℕ) (i : Interval) → q < n → IsShort i → list_all (fits_row n) (unit_rows q i) ≡ true
 units_fit n q i h s =

@@ -5,7 +5,7 @@
 --   position_formula, grid_formula, overlay_formula, cover_formula, null_formula, whole_formula    what breaks a goal
 --   asked_by goal               what a goal asks
 --   query_form, query_for       the fact and the query of a path and a goal
-use Rattle.std.specs.Prelude.{List, [], ◌∷◌, ◌++◌, map, filter, ℕ, ◌+◌, ◌-◌, ◌^◌, pos, negsuc, neg_ℤ, Option, Some, None, slice_get}
+use Rattle.std.specs.Prelude.{List, [], ◌∷◌, ◌++◌, map, filter, take, length, ℕ, ◌+◌, ◌-◌, ◌^◌, pos, negsuc, neg_ℤ, Option, Some, None, slice_get}
 use Rattle.std.specs.Int.{int_div_euclid}
 use Rattle.rx_types.specs.declared.interval.Interval.{Interval}
 use Rattle.rx_types.specs.Tree.{Tree}
@@ -65,9 +65,13 @@ abbrev pub cover_formula : List Formed → Linear → Form
 cover_formula [] first = unequal first (constant (pos 0))
 cover_formula (p ∷ ps) first = Any (map (λ f. above f.end first) (p ∷ ps) ++ All (map (λ f. above first f.end) (p ∷ ps)) ∷ [])
 
--- a field ends after the last one
+-- all fields but the last one
+abbrev pub before_last : List Formed → List Formed
+before_last fields = take (length fields - 1) fields
+
+-- a field before the last one ends after it
 abbrev pub null_formula : List Formed → Form
-null_formula fields = Any (map (λ f. above f.end (end_form fields)) fields)
+null_formula fields = Any (map (λ f. above f.end (end_form fields)) (before_last fields))
 
 -- ---- quotients by 8
 

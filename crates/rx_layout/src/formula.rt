@@ -172,13 +172,14 @@ pub fn last_end(alloc: Global, fields: &[FieldForms]) -> Result<Linear, FormFaul
     }
 }
 
-/// A field ends after the last one.
+/// A field before the last one ends after it.
 pub fn null_formula(alloc: Global, fields: &[FieldForms]) -> Result<Form, FormFault>
     ensures { IfOk result (λ f. f ≡ null_formula (formed_all fields.now)) }
 {
-    let end = last_end(alloc, fields)?;
-    let branches = ends_after(alloc, fields, &end)?;
-    Ok(Form::Any(branches))
+    match fields {
+        [before @ .., last] => Ok(Form::Any(ends_after(alloc, before, &last.end)?)),
+        [] => Ok(Form::Any(Items::new(alloc))),
+    }
 }
 
 // A variable is at least the quotient by 8 of the lower end of an interval.
