@@ -1,12 +1,12 @@
 -- From what was found to the answer, over plain texts and input.
-use Rattle.std.proofs.Common.{◌≡◌, ℕ, [], ◌∷◌, List, Option, Some, None, IfSome, inl, inr, Ok, ◌∙◌, subst, sym, refl, ap, option_map}
+use Rattle.std.proofs.Common.{◌≡◌, ℕ, [], ◌∷◌, List, Option, Some, None, IfSome, inl, inr, Ok, subst, sym, refl, option_map}
 use Rattle.rx_io.specs.Faults.{HasRisen}
 use Rattle.rx_io.specs.Shelf.{Texts}
 use Rattle.rx_types.specs.Domain.{Domain}
 use Rattle.rx_syntax.specs.declared.tree.PackageTree.{PackageTree}
 use Rattle.rx_graph.specs.declared.spec.Spec.{Spec}
 use Rattle.rx_graph.specs.Elaborated.{IsSound}
-use Rattle.rx_graph.specs.Graph.{Graph, spec_of}
+use Rattle.rx_graph.specs.Graph.{spec_of}
 use Rattle.rx_graph.specs.Typed.{Typed, typed}
 use Rattle.rx_forms.specs.Checkable.{TypedMessages}
 use Rattle.rx_forms.specs.Checkable.{messages_of as all_of}
@@ -24,13 +24,13 @@ use Rattle.rx_program.specs.declared.status.Status.TheVariants as status
 use Rattle.rx_program.specs.declared.answer.Answer.{Answer}
 use Rattle.rx_program.specs.declared.answer.Answer.TheVariants as answer
 use Rattle.rx_program.specs.declared.words.Ask as code
-use Rattle.rx_program.specs.Words.{Does, Checks, Decodes, Encodes, Ask, asked_for, message_asked, HaveNoForm}
+use Rattle.rx_program.specs.Words.{Does, Checks, Decodes, Encodes, Ask, asked_for, HaveNoForm}
 use Rattle.rx_program.specs.Asked.{ask_of, does_of}
 use Rattle.rx_program.specs.Input.{IsReadAs, IsWrittenAs}
 use Rattle.rx_program.specs.Stage.{AreServed, IsUnserved, IsToldIn}
 use Rattle.rx_program.specs.Refusals.{IsRefusedFor, Means}
 use Rattle.rx_program.specs.Request.{IsAll, Serves, IsDenied, IsDone, AnswersTo}
-use Rattle.rx_program.specs.Answers.{EndsAt, Request, Asks, Answers, by_words, by_walk, by_refusal, by_messages}
+use Rattle.rx_program.specs.Answers.{EndsAt, Request, Answers, by_words, by_walk, by_refusal, by_messages}
 use Rattle.rx_program.specs.Outcome.{FaultCounts, IsCaused, Prints, Outcome}
 use Rattle.rx_program.specs.Operand.{message_in}
 use Rattle.rx_program.proofs.OperandLemmas.{domains_same, there, typed_by, nothing_there}

@@ -6,7 +6,7 @@ use Rattle.rx_types.specs.Domain.{Domain}
 use Rattle.rx_syntax.specs.declared.rule.Refusal.{Refusal}
 use Rattle.rx_graph.specs.Graph.{Graph, Specified}
 use Rattle.rx_forms.specs.Checkable.{TypedMessages}
-use Rattle.rx_spec.specs.Elaboration.{Told, elaborated}
+use Rattle.rx_spec.specs.Elaboration.{Told}
 use Rattle.rx_spec.specs.Laws.{domains_in}
 use Rattle.rx_trees.specs.Laws.{OneTree}
 use Rattle.rx_meaning.specs.Laws.{OneMeaning}
@@ -14,7 +14,6 @@ use Rattle.rx_closure.specs.Closure.{HasNone, IsClosure, begins, withs_of}
 use Rattle.rx_program.specs.declared.answer.Answer.{Answer}
 use Rattle.rx_program.specs.declared.answer.Answer.TheVariants.{Usage, ShelfFault, NoPackage, TextLimit, Refused, PackageLimit}
 use Rattle.rx_program.specs.Words.{Ask, asked_for, HaveNoForm}
-use Rattle.rx_program.specs.Stage.{of_packages}
 use Rattle.rx_program.specs.Refusals.{IsFirst, TellsRefusal, IsRefusedFor, Means}
 use Rattle.rx_program.specs.Request.{AnswersTo}
 use Rattle.rx_program.specs.Answers.{EndsAt, Request, Asks, Answers, by_words, by_walk, by_refusal, by_messages}

@@ -1,5 +1,5 @@
 -- What one command encoded another decodes as the same values, and what one decoded another encodes as the same buffer.
-use Rattle.std.proofs.Common.{◌≡◌, ℕ, Bool, true, false, List, refl, sym, ap, ◌∙◌, subst, Option, Some, Ok, inl, inr, if◌then◌else◌}
+use Rattle.std.proofs.Common.{◌≡◌, ℕ, Bool, true, false, List, sym, ap, ◌∙◌, subst, Option, Some, Ok, inl, inr, if◌then◌else◌}
 use Rattle.std.specs.Prelude.{◌==◌}
 use Rattle.rx_io.specs.Shelf.{Texts}
 use Rattle.rx_types.specs.Domain.{Domain}
@@ -20,7 +20,7 @@ use Rattle.rx_encode.specs.Laws.{IsBuffer}
 use Rattle.rx_encode.specs.declared.encoding.Encoded.{Encoded}
 use Rattle.rx_encode.specs.declared.encoding.Encoded.TheVariants as encoded
 use Rattle.rx_encode.proofs.RoundTrip.{printed_is_encoded, encoded_reads}
-use Rattle.rx_program.specs.Words.{Does, Ask, Checks, Decodes, Encodes}
+use Rattle.rx_program.specs.Words.{Does, Ask, Decodes, Encodes}
 use Rattle.rx_closure.specs.Closure.{IsClosure}
 use Rattle.rx_forms.specs.Checkable.{TypedMessages}
 use Rattle.rx_syntax.specs.declared.tree.PackageTree.{PackageTree}
@@ -34,11 +34,10 @@ use Rattle.rx_program.specs.Request.{Serves, IsDenied, IsAnswered, IsDone}
 use Rattle.rx_program.specs.Answers.{EndsAt, Request, Asks, Answers, by_words, by_walk, by_refusal, by_messages}
 use Rattle.rx_program.specs.Outcome.{FaultCounts, Outcome, IsText, status_of, status_of_encoded, encoded_text}
 use Rattle.rx_program.specs.RoundTrips.{AskThat, AskBoth, IsJsonOfText, EncodedIsDecoded, DecodedIsEncoded}
-use Rattle.rx_program.specs.declared.status.Status.{Status}
-use Rattle.rx_program.specs.declared.status.Status.TheVariants.{Done, NotAccepted, Words, Specification, Undecided, InputRefused, Limit}
+use Rattle.rx_program.specs.declared.status.Status.TheVariants.{Done, NotAccepted, Words, Undecided, InputRefused, Limit}
 use Rattle.rx_program.specs.declared.status.Status.TheVariants.{SourceFault as SourceStatus}
 use Rattle.rx_program.specs.declared.answer.Answer.{Answer}
-use Rattle.rx_program.specs.declared.answer.Answer.TheVariants.{Usage, ShelfFault, NoPackage, TextLimit, Refused, PackageLimit, NoMessage, Rejected, SourceFault, InputLimit}
+use Rattle.rx_program.specs.declared.answer.Answer.TheVariants.{ShelfFault, NoPackage, TextLimit, Refused, PackageLimit, NoMessage, Rejected, SourceFault, InputLimit}
 use Rattle.rx_program.specs.declared.answer.Answer.TheVariants as answer
 use Rattle.rx_program.proofs.OneClosure.{HaveSame, closures_same}
 use Rattle.rx_program.proofs.OneAnswer.{meanings_same}

@@ -1,5 +1,5 @@
 -- What the status of a command tells of the messages that it checks.
-use Rattle.std.proofs.Common.{◌≡◌, refl, sym, ap, ◌∙◌, subst, ℕ, zero, suc, ◌<◌, Bool, true, false, List, [], ◌∷◌, Some, if◌then◌else◌, ◌⊎◌, inl, inr, arith}
+use Rattle.std.proofs.Common.{◌≡◌, refl, sym, ap, ◌∙◌, subst, ℕ, zero, suc, ◌<◌, Bool, true, false, List, [], ◌∷◌, Some, if◌then◌else◌, inl, inr, arith}
 use Rattle.std.specs.Prelude.{◌==◌, filter}
 use Rattle.std.specs.List.{AllByRecursion}
 use Rattle.std.specs.Str.{str_eq_ignore_ascii_case}
@@ -7,12 +7,11 @@ use Rattle.std.proofs.lemmas.Bool.Decides.{Decides-eqb}
 use Rattle.rx_io.specs.Shelf.{Texts}
 use Rattle.rx_types.specs.Domain.{Domain}
 use Rattle.rx_forms.specs.PathLimit.{MayBeChecked}
-use Rattle.rx_graph.specs.Elaborated.{IsElaborated}
 use Rattle.rx_graph.specs.Graph.{Graph}
 use Rattle.rx_spec.specs.Laws.{IsSoundSpec, domains_in}
 use Rattle.rx_spec.proofs.Elaborating.{elaboration_is_sound}
 use Rattle.rx_report.specs.declared.reported.Reported.{Reported}
-use Rattle.rx_report.specs.Reported.{messages_of, IsReported, HasOpen}
+use Rattle.rx_report.specs.Reported.{messages_of, HasOpen}
 use Rattle.rx_checks.specs.Laws.{HasBrokenCheck, HasLongWalk}
 use Rattle.rx_report.specs.Laws.{AnyOf, AreElaborated, AreSound, CountsTellSoundness}
 use Rattle.rx_report.proofs.Soundness.{tell_soundness}

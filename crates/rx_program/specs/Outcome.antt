@@ -1,5 +1,5 @@
 -- How an answer shows: the status, and the bytes that are written.
-use Rattle.std.specs.Prelude.{◌≡◌, ◌==◌, ℕ, List, [], ◌∷◌, ◌++◌, Option, Some, None, take, codes, if◌then◌else◌}
+use Rattle.std.specs.Prelude.{◌≡◌, ◌==◌, ℕ, List, [], ◌++◌, Option, take, codes, if◌then◌else◌}
 use Rattle.rx_io.specs.Faults.{HasRisen}
 use Rattle.rx_io.specs.Shelf.{Texts}
 use Rattle.rx_program.specs.declared.status.Status.{Status}

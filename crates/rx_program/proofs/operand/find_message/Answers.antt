@@ -1,5 +1,5 @@
-use Rattle.std.proofs.Common.{◌≡◌, ◌∙◌, sym, ap, Bool, true, Some, None, Option, slice_get, option_map}
-use Rattle.rx_graph.specs.Graph.{Graph, graph_of}
+use Rattle.std.proofs.Common.{◌∙◌, sym, ap, true, Some, Option, slice_get, option_map}
+use Rattle.rx_graph.specs.Graph.{Graph}
 use Rattle.rx_graph.specs.Typed.{Typed, typed}
 use Rattle.rx_program.specs.Operand.{is_of}
 use Rattle.rx_program.proofs.OperandLemmas.{there, made_of, nothing_there, message_first, other_more, none_more}

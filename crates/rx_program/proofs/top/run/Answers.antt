@@ -1,9 +1,6 @@
-use Rattle.std.proofs.Common.{map, sym}
+use Rattle.std.proofs.Common.{map}
 use Rattle.std.specs.Prelude.{string_bytes}
-use Rattle.std.specs.Io.KnownBytes.{Appends, IsAtEnd}
-use Rattle.rx_io.specs.Faults.{HasRisen}
-use Rattle.rx_program.specs.Heard.{IsTold, IsHeard}
-use Rattle.rx_program.specs.Words.{HaveNoInput}
+use Rattle.std.specs.Io.KnownBytes.{Appends}
 use Rattle.rx_program.proofs.AnswerLemmas.{AnsweredOf, outcome_of}
 use Rattle.rx_program.proofs.ReadLemmas.{in_answer, leaves_input, reads_all, usage_of, shelf_fault_of, source_fault_of, may_refuse}
 use Rattle.rx_program.proofs.top.run.Goals as goal
