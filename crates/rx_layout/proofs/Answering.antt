@@ -1,5 +1,5 @@
 -- The query of what was gathered is that of the path and the goal.
-use Rattle.std.proofs.Common.{◌≡◌, refl, sym, ap, ◌∙◌, ℕ, ◌+◌, ◌<◌, List, [], ◌∷◌, ◌++◌, map, Bool, if◌then◌else◌, append_assoc}
+use Rattle.std.proofs.Common.{◌≡◌, refl, sym, ap, ◌∙◌, ℕ, ◌+◌, ◌<◌, List, [], ◌∷◌, ◌++◌, map, Bool, if◌then◌else◌, append_assoc, Vec, Global}
 use Rattle.std.specs.List.{flat_map}
 use Rattle.rx_types.specs.Domain.{Domain, size_of, IsProper, Integer, Enumeration}
 use Rattle.rx_graph.specs.declared.message.Node.{Node}
@@ -8,8 +8,10 @@ use Rattle.rx_graph.specs.Graph.{Arrow, Graph, type_of, limit_of}
 use Rattle.rx_graph.specs.Cycles.{IsPath}
 use Rattle.rx_graph.specs.Elaborated.{IsElaborated}
 use Rattle.rx_forms.specs.declared.linear.Linear.{Linear}
-use Rattle.rx_forms.specs.declared.linear.Form.{Form, All}
+use Rattle.rx_forms.specs.declared.linear.Form.{Form, AtLeast, All}
 use Rattle.rx_forms.specs.declared.builder.Builder.{Builder}
+use Rattle.rx_forms.specs.declared.field.FieldForms.{FieldForms}
+use Rattle.rx_forms.specs.Code.{formed_all}
 use Rattle.rx_forms.specs.Normal.{Formed}
 use Rattle.rx_forms.specs.Steps
 use Rattle.rx_forms.specs.Steps.{Step, AreFormable, AreNarrow, link_then, links_on, scalars_on, place_forms, condition_form, division_forms, type_form_any}
@@ -18,15 +20,19 @@ use Rattle.rx_forms.specs.Laws.{fields_on}
 use Rattle.rx_forms.specs.Fronts.{Front, front_of, first_front, after_links}
 use Rattle.rx_forms.proofs.Looping.{is_field}
 use Rattle.rx_forms.proofs.Gathering.{fields_after, division_is, rows_after, conditions_after}
+use Rattle.rx_layout.proofs.Stages
 use Rattle.rx_layout.specs.declared.goal.Goal.{Goal}
 use Rattle.rx_layout.specs.Goals.{source, IsGoal}
 use Rattle.rx_layout.specs.Types.{type_form}
-use Rattle.rx_layout.specs.Parts.{query_of, parts_of}
+use Rattle.rx_layout.specs.Parts.{query_of, all_of, parts_of}
 use Rattle.rx_layout.specs.Made
 use Rattle.rx_layout.specs.Made.{placed, behind}
 use Rattle.rx_layout.specs.QueryOf
 use Rattle.rx_layout.specs.QueryOf.{Asked, rows, length_form}
-use Rattle.rx_layout.proofs.Flat.{flat_parts}
+use Rattle.rx_layout.specs.Laid.{end_front, laid, HasForms}
+use Rattle.rx_layout.specs.TypedPath.{TypedPath}
+use Rattle.rx_layout.specs.declared.asked.Asked as code
+use Rattle.rx_layout.proofs.Flat.{flat_parts, four_parts}
 use Rattle.rx_layout.proofs.Stepping.{formed_steps, types_same, places_same, overlays_same}
 use Rattle.rx_layout.proofs.Units.{field_proper}
 use Rattle.rx_layout.proofs.Whole.{leads_through, source_is_no_null}
@@ -81,7 +87,7 @@ module _ (domains : List Domain) (m : Graph) where
       → Made.laid_from domains m [] b.fields.items ≡ map (λ s. Steps.overlay_form domains m s) steps
       → b.conditions ≡ map condition_form steps ++ forms
       → b.work.rows ≡ flat_map divided steps ++ divisions
-      → query_of b.work.next (parts_of b.work.next (Made.gathered_form domains m b)) ≡ query_of n (parts_of n (All (QueryOf.path_forms domains m steps forms divisions)))
+      → query_of b.work.next (parts_of b.work.next (Stages.gathered_form domains m b)) ≡ query_of n (parts_of n (All (QueryOf.path_forms domains m steps forms divisions)))
   made b steps forms divisions n e types places overlays conditions rest =
       let t = map (λ s. type_form_any type_form (type_of domains m s.field) s) steps in
       let p = map (λ s. rows (place_forms (type_of domains m s.field) s)) steps in
@@ -90,7 +96,7 @@ module _ (domains : List Domain) (m : Graph) where
       let flat = rows (flat_map divided steps ++ divisions) ∷ [] in
       let last = map (λ s. rows (divided s)) steps ++ rows divisions ∷ [] in
       let front = whole t p o (c ++ forms) [] in
-      ap (λ k. query_of k (parts_of k (Made.gathered_form domains m b))) e
+      ap (λ k. query_of k (parts_of k (Stages.gathered_form domains m b))) e
       ∙ ap (λ x. query_of n (parts_of n (All x))) (whole_same _ t _ p _ o _ (c ++ forms) (rows b.work.rows ∷ []) flat types places overlays conditions (ap (λ r. rows r ∷ []) rest) ∙ sym (regroup t p o (c ++ forms) flat))
       ∙ ap (λ x. query_of n x) (flat_parts n front divided steps divisions)
       ∙ ap (λ x. query_of n (parts_of n (All x))) (regroup t p o (c ++ forms) last ∙ ap (λ x. t ++ (length_form ∷ (p ++ (o ++ x)))) (append_assoc c forms last))
@@ -98,8 +104,8 @@ module _ (domains : List Domain) (m : Graph) where
   abbrev front_at : List Arrow → Front
   front_at links = after_links domains m (first_front (scalars_on domains m links)) links
 
-  pub query_made : (b : Builder) (goal : Goal) (path : List ℕ) → front_of b ≡ Made.behind_path domains m path goal → into_fields (links_on domains m path) ≡ links_on domains m path
-      → query_of b.work.next (parts_of b.work.next (Made.gathered_form domains m b)) ≡ QueryOf.query_for domains m goal path
+  pub query_made : (b : Builder) (goal : Goal) (path : List ℕ) → front_of b ≡ Stages.behind_path domains m path goal → into_fields (links_on domains m path) ≡ links_on domains m path
+      → query_of b.work.next (parts_of b.work.next (Stages.gathered_form domains m b)) ≡ QueryOf.query_for domains m goal path
   query_made b goal path h all =
       let links = links_on domains m path in
       let s = scalars_on domains m links in
@@ -120,9 +126,61 @@ module _ (domains : List Domain) (m : Graph) where
       (ap (λ (x : Front). x.conditions) e ∙ ap (λ x. x ++ asked.forms) (conditions_after domains m start links))
       (ap (λ (x : Front). x.rows) e ∙ ap (λ x. x ++ asked.divisions) (rows_after domains m start links))
 
--- facts, gathered one behind the other
-pub all_gathered : (t p o c : List Form) (l d : Form) (f0 f1 f2 f3 f4 f5 f6 : List Form) → f0 ≡ [] → f1 ≡ f0 ++ t → f2 ≡ f1 ++ l ∷ [] → f3 ≡ f2 ++ p → f4 ≡ f3 ++ o → f5 ≡ f4 ++ c → f6 ≡ f5 ++ d ∷ []
-    → f6 ≡ t ++ (l ∷ (p ++ (o ++ (c ++ d ∷ []))))
-all_gathered t p o c l d f0 f1 f2 f3 f4 f5 f6 e0 e1 e2 e3 e4 e5 e6 =
-    e6 ∙ ap (λ x. x ++ d ∷ []) (e5 ∙ ap (λ x. x ++ c) (e4 ∙ ap (λ x. x ++ o) (e3 ∙ ap (λ x. x ++ p) (e2 ∙ ap (λ x. x ++ l ∷ []) (e1 ∙ ap (λ x. x ++ t) e0)))))
-    ∙ append_assoc (((t ++ l ∷ []) ++ p) ++ o) c (d ∷ []) ∙ append_assoc ((t ++ l ∷ []) ++ p) o (c ++ d ∷ []) ∙ append_assoc (t ++ l ∷ []) p (o ++ (c ++ d ∷ [])) ∙ append_assoc t (l ∷ []) (p ++ (o ++ (c ++ d ∷ [])))
+  -- ---- what is laid on top of a path
+
+  abbrev sums : List Linear → List Form
+  sums fs = map (λ f. AtLeast f) fs
+
+  -- what stands behind a path whose fields have these forms, with what is asked there
+  abbrev builder : (fields : Vec FieldForms Global) (front : Front) (asked : code.Asked) → Builder
+  builder fields front asked = record {
+    fields = fields;
+    scalar = front.scalar;
+    work = record { next = asked.work.next; rows = front.rows ++ asked.work.rows };
+    firsts = front.firsts;
+    sizes = front.sizes;
+    conditions = front.conditions ++ asked.forms;
+  }
+
+  pub front_laid : (fields : Vec FieldForms Global) (path : List ℕ) (goal : Goal) (asked : code.Asked)
+      → formed_all fields.items ≡ (Made.path_front domains m path).fields
+      → laid (end_front (record { domains = domains; graph = m; path = path })) asked ≡ Stages.behind_end domains m path goal
+      → front_of (builder fields (Made.path_front domains m path) asked) ≡ Stages.behind_path domains m path goal
+  front_laid fields path goal asked e h =
+      let front = Made.path_front domains m path in
+      ap (λ (fs : List Formed). record front { fields = fs; division = asked.work.next; rows = front.rows ++ asked.work.rows; conditions = front.conditions ++ asked.forms }) e
+      ∙ ap (λ (x : Front). record front { division = x.division; rows = front.rows ++ x.rows; conditions = front.conditions ++ x.conditions }) h
+
+  facts_first : (fields : List FieldForms) (c a last : List Form) → Made.path_facts domains m fields c ++ (a ++ last) ≡ whole (map (Made.typed_field domains m) fields) (map placed fields) (Made.laid_from domains m [] fields) (c ++ a) last
+  facts_first fields c a last =
+      let t = map (Made.typed_field domains m) fields in
+      let p = map placed fields in
+      let o = Made.laid_from domains m [] fields in
+      append_assoc t (length_form ∷ (p ++ (o ++ c))) (a ++ last)
+      ∙ ap (λ x. t ++ (length_form ∷ x)) (append_assoc p (o ++ c) (a ++ last) ∙ ap (λ x. p ++ x) (append_assoc o c (a ++ last) ∙ ap (λ x. o ++ x) (sym (append_assoc c a last))))
+
+  pub query_laid : (fields : Vec FieldForms Global) (path : List ℕ) (goal : Goal) (next : ℕ) (facts rows : List Form) (asked : code.Asked)
+      → HasForms (record { domains = domains; graph = m; path = path }) fields.items next facts rows
+      → laid (end_front (record { domains = domains; graph = m; path = path })) asked ≡ Stages.behind_end domains m path goal
+      → into_fields (links_on domains m path) ≡ links_on domains m path
+      → query_of asked.work.next (all_of (map (parts_of asked.work.next) (facts ++ (asked.forms ++ (rows ++ sums asked.work.rows))))) ≡ QueryOf.query_for domains m goal path
+  query_laid fields path goal next facts rows asked has h all =
+      let front = Made.path_front domains m path in
+      let n = asked.work.next in
+      let b = builder fields front asked in
+      let last = QueryOf.rows (front.rows ++ asked.work.rows) ∷ [] in
+      ap (λ (fs : List Form). query_of n (all_of (map (parts_of n) (fs ++ (asked.forms ++ (rows ++ sums asked.work.rows)))))) has.facts_are
+      ∙ ap (λ (fs : List Form). query_of n (all_of (map (parts_of n) (Made.path_facts domains m fields.items front.conditions ++ (asked.forms ++ (fs ++ sums asked.work.rows)))))) has.rows_are
+      ∙ ap (λ x. query_of n x) (four_parts n (Made.path_facts domains m fields.items front.conditions) asked.forms front.rows asked.work.rows)
+      ∙ ap (λ (fs : List Form). query_of n (parts_of n (All fs))) (facts_first fields.items front.conditions asked.forms last)
+      ∙ query_made b goal path (front_laid fields path goal asked has.fields_are h) all
+
+-- the same of a path that the code has under another name, and of facts that it has so
+pub query_is : (p q : TypedPath) (fields : Vec FieldForms Global) (goal : Goal) (next : ℕ) (facts rows : List Form) (asked : code.Asked) (all : List Form) → p ≡ q → HasForms p fields.items next facts rows
+    → laid (end_front p) asked ≡ Stages.behind_end p.domains p.graph p.path goal → into_fields (links_on p.domains p.graph p.path) ≡ links_on p.domains p.graph p.path
+    → all ≡ facts ++ (asked.forms ++ (rows ++ map (λ f. AtLeast f) asked.work.rows))
+    → query_of asked.work.next (all_of (map (parts_of asked.work.next) all)) ≡ QueryOf.query_for q.domains q.graph goal q.path
+query_is p q fields goal next facts rows asked all e has h links k =
+    ap (λ (fs : List Form). query_of asked.work.next (all_of (map (parts_of asked.work.next) fs))) k
+    ∙ query_laid p.domains p.graph fields p.path goal next facts rows asked has h links
+    ∙ ap (λ (x : TypedPath). QueryOf.query_for x.domains x.graph goal x.path) e

@@ -1,5 +1,5 @@
 -- What a goal asks at the end of a path fits a system.
-use Rattle.std.proofs.Common.{◌≡◌, refl, sym, ap, subst, ◌∙◌, ℕ, ◌+◌, ◌≤◌, arith, List, [], ◌∷◌, length, Bool, true, false, if◌then◌else◌, slice_get, pos, negsuc, Option, Some, None}
+use Rattle.std.proofs.Common.{◌≡◌, refl, sym, ap, subst, ◌∙◌, ℕ, ◌+◌, ◌≤◌, arith, List, [], ◌∷◌, ◌++◌, length, Bool, true, false, if◌then◌else◌, slice_get, pos, negsuc, Option, Some, None}
 use Rattle.std.specs.Prelude.{nat_le}
 use Rattle.std.specs.List.{AllByRecursion}
 use Rattle.rx_linear.proofs.Joining.{both, and_true}
@@ -7,30 +7,43 @@ use Rattle.rx_types.specs.declared.interval.Interval.{Interval}
 use Rattle.rx_types.specs.Domain.{Domain}
 use Rattle.rx_types.specs.Tree.{Tree}
 use Rattle.rx_types.specs.Narrow.{IsShort, IsNarrow}
-use Rattle.rx_graph.specs.declared.message.Node.{Node}
-use Rattle.rx_graph.specs.declared.message.Node.TheVariants.{Start, At, Null}
-use Rattle.rx_graph.specs.Graph.{Arrow, Graph, limit_of, overlay_of}
+use Rattle.rx_graph.specs.Graph.{Arrow, Graph, limit_of}
 use Rattle.rx_forms.specs.declared.linear.Linear.{Linear}
 use Rattle.rx_forms.specs.declared.linear.Form.{Form}
 use Rattle.rx_forms.specs.Normal.{Formed, bits}
 use Rattle.rx_forms.specs.Limits.{all_kept, is_within}
-use Rattle.rx_forms.specs.Steps.{form_or, divisions_in_any, size_aspect, IsNarrowIfAny, IsNarrowLink, AreNarrow, link_then, links_on, scalars_on, leads_to_field, target_field}
+use Rattle.rx_forms.specs.Steps.{form_or, divisions_any, divisions_in_any, size_aspect, IsNarrowIfAny, IsNarrowLink, AreNarrow, link_then, links_on, scalars_on, leads_to_field}
 use Rattle.rx_forms.specs.Gathered.{met_any, into_fields}
 use Rattle.rx_forms.specs.Worked.{aspect_within, size_otherwise}
 use Rattle.rx_forms.specs.Fronts.{Front, first_front, after_links, links_within, after_end}
 use Rattle.rx_forms.proofs.Gathering.{division_is}
 use Rattle.rx_layout.specs.Fitting.{fits, IsLowTo, IsFitting}
 use Rattle.rx_layout.specs.Made
-use Rattle.rx_layout.specs.Made.{behind, formula_behind, units_behind}
-use Rattle.rx_layout.specs.declared.goal.Goal.{Goal}
-use Rattle.rx_layout.specs.declared.goal.Goal.TheVariants.{Exclusive, Taken, Reached, Position, Grid, Overlay, Cover, Whole}
-use Rattle.rx_layout.specs.QueryOf
+use Rattle.rx_layout.specs.Made.{behind}
+use Rattle.rx_layout.proofs.Stages.{formula_behind, units_behind}
 use Rattle.rx_layout.specs.QueryOf.{unit_rows}
 use Rattle.rx_layout.proofs.PathsFit.{path_fits}
 use Rattle.rx_layout.proofs.Stepping.{term_length}
 use Rattle.rx_layout.proofs.Bounds.{low_to, weighted_width}
 use Rattle.rx_layout.proofs.FrontsFit.{end_fits, any_fits, each_wider, join_rows, join_facts, said_width}
 use Rattle.rx_layout.proofs.FormulasFit.{units_fit}
+
+-- the condition of a link, and a First or a Size, stay within the path limit, where the division variables begin at n
+abbrev pub Within : Front → ℕ → Arrow → Type 0
+Within front n link = is_within front.fields n link.condition ≡ true
+
+abbrev pub AspectWithin : Front → ℕ → Option Tree → Linear → Type 0
+AspectWithin front n x otherwise = aspect_within front.fields n x (form_or x front.fields n otherwise) ≡ true
+
+-- the next variable and the rows behind a First or a Size
+abbrev pub behind_any : ℕ → Option Tree → ℕ
+behind_any n x = n + divisions_in_any x
+
+abbrev pub rows_any : (ℕ → ℕ) → List Formed → List Linear → ℕ → Option Tree → List Linear
+rows_any limit fields rows n x = rows ++ divisions_any limit fields n x
+
+abbrev pub IsWide : Linear → ℕ → Type 0
+IsWide f n = length f.coefficients ≤ n
 
 -- whatever fits before, fits behind
 abbrev pub FitsStep : Front → Front → Type 0
@@ -84,34 +97,6 @@ module _ (domains : List Domain) (m : Graph) where
 
   -- ---- a whole path
 
-  -- a goal's variables stand behind those of the path
-  with_more : (o : Option Arrow) (fields : List Formed) (n : ℕ) (ask : Arrow → QueryOf.Asked) → ((l : Arrow) → n ≤ (ask l).variables) → n ≤ (QueryOf.with_link domains m o fields n ask).variables
-  with_more None fields n ask h = omega arith
-  with_more (Some l) fields n ask h = h l
-
-  overlay_more : (o : Option ℕ) (fields : List Formed) (n : ℕ) (l : Arrow) → n ≤ (QueryOf.overlay_on domains m o fields n l).variables
-  overlay_more None fields n l = omega arith
-  overlay_more (Some x) fields n l = omega arith
-
-  cover_more : (o : Option ℕ) (fields : List Formed) (n : ℕ) (l : Arrow) → n ≤ (QueryOf.cover_asked domains m o fields n l).variables
-  cover_more None fields n l = omega arith
-  cover_more (Some x) fields n l = omega arith
-
-  to_more : (t : Node) (fields : List Formed) (n : ℕ) (l : Arrow) → n ≤ (QueryOf.cover_to domains m t fields n l).variables
-  to_more Start fields n l = omega arith
-  to_more (At f) fields n l = cover_more (overlay_of (slice_get m.fields f)) fields n l
-  to_more Null fields n l = omega arith
-
-  pub asked_more : (goal : Goal) (fields : List Formed) (n : ℕ) → n ≤ (QueryOf.asked_by domains m goal fields n).variables
-  asked_more (Exclusive node a b) fields n = with_more (QueryOf.link_numbered m node a) fields n _ (λ l. with_more (QueryOf.link_numbered m node b) fields n _ (λ k. omega arith))
-  asked_more (Taken node a) fields n = with_more (QueryOf.link_numbered m node a) fields n _ (λ l. omega arith)
-  asked_more (Reached f) fields n = omega arith
-  asked_more (Position node a) fields n = with_more (QueryOf.link_numbered m node a) fields n _ (λ l. omega arith)
-  asked_more (Grid node a) fields n = with_more (QueryOf.link_numbered m node a) fields n _ (λ l. omega arith)
-  asked_more (Overlay node a) fields n = with_more (QueryOf.link_numbered m node a) fields n _ (λ l. overlay_more (overlay_of (slice_get m.fields (target_field l.target))) fields n l)
-  asked_more (Cover node a) fields n = with_more (QueryOf.link_numbered m node a) fields n _ (λ l. to_more l.target fields n l)
-  asked_more (Whole node a) fields n = with_more (QueryOf.link_numbered m node a) fields n _ (λ l. omega arith)
-
   -- the links of a path into fields are narrow
   then_narrow : (limit : ℕ → ℕ) (o : Option Arrow) (links : List Arrow) → ((l : Arrow) → o ≡ Some l → IsNarrowLink limit l) → AllByRecursion (λ l. IsNarrowLink limit l) (into_fields links) → AllByRecursion (λ l. IsNarrowLink limit l) (into_fields (link_then o links))
   then_narrow limit None links h rest = rest
@@ -128,15 +113,13 @@ module _ (domains : List Domain) (m : Graph) where
   pub first_fits : (n count : ℕ) (front : Front) → front ≡ first_front count → IsFitting n front
   first_fits n count front e = subst (λ (x : Front). IsFitting n x) (sym e) (record { some = omega arith; fields = tt; rows = refl; conditions = refl })
 
-  pub asked_fits : (n count : ℕ) (path : List ℕ) (goal : Goal) (front mid new : Front) → AreNarrow (limit_of domains m) m → front ≡ first_front count → count ≡ scalars_on domains m (into_fields (links_on domains m path))
-      → mid ≡ after_links domains m front (into_fields (links_on domains m path)) → links_within domains m front (into_fields (links_on domains m path)) ≡ true
-      → new ≡ behind (QueryOf.asked_by domains m goal mid.fields mid.division) mid → FitsStep mid new → new.division ≤ n → IsFitting n new
-  asked_fits n count path goal front mid new narrow e k g w h step r =
+  -- what is gathered along the path
+  pub front_fits : (n count : ℕ) (path : List ℕ) (front new : Front) → AreNarrow (limit_of domains m) m → front ≡ first_front count → count ≡ scalars_on domains m (into_fields (links_on domains m path))
+      → new ≡ after_links domains m front (into_fields (links_on domains m path)) → links_within domains m front (into_fields (links_on domains m path)) ≡ true → new.division ≤ n → IsFitting n new
+  front_fits n count path front new narrow e k g w r =
       let links = into_fields (links_on domains m path) in
-      let more = asked_more goal mid.fields mid.division in
-      let last = ap (λ (x : Front). x.division) h in
       let up = ap (λ (x : Front). x.division) g ∙ division_is domains m front links in
       let scalar = ap (λ (x : Front). x.scalar) e in
       let division = ap (λ (x : Front). x.division) e in
-      step n r (subst (λ (x : Front). IsFitting n x) (sym g)
-      (path_fits domains m n front links (path_narrow (limit_of domains m) path narrow) w (omega (arith, more, last, up, r)) (omega (arith, scalar, division, k)) (first_fits n count front e)))
+      subst (λ (x : Front). IsFitting n x) (sym g)
+      (path_fits domains m n front links (path_narrow (limit_of domains m) path narrow) w (omega (arith, up, r)) (omega (arith, scalar, division, k)) (first_fits n count front e))

@@ -19,6 +19,7 @@ use Rattle.rx_forms.specs.Divisions.{divisions}
 use Rattle.rx_forms.specs.Steps.{form_or, target_field, size_aspect, divisions_any, divisions_in_any, first_form, size_form, end_form}
 use Rattle.rx_forms.specs.Fronts.{Front, after_end}
 use Rattle.rx_forms.proofs.Aspects.{end_of_last}
+use Rattle.rx_layout.proofs.Stages
 use Rattle.rx_layout.specs.Goals.{HasLink, LeadsToBytes}
 use Rattle.rx_layout.proofs.Numbered.{numbered_found}
 use Rattle.rx_layout.specs.QueryOf
@@ -26,7 +27,8 @@ use Rattle.rx_layout.specs.QueryOf.{goal_step, unit_rows, position_formula, grid
 use Rattle.rx_types.specs.declared.interval.Interval.{Interval}
 use Rattle.rx_types.specs.Narrow.{places_in_bits}
 use Rattle.rx_layout.specs.Made
-use Rattle.rx_layout.specs.Made.{behind, formula_behind, units_behind}
+use Rattle.rx_layout.specs.Made.{behind}
+use Rattle.rx_layout.proofs.Stages.{formula_behind, units_behind}
 
 up_to : (a : ℕ) → nat_le a 190 ≡ true → a ≤ 190
 up_to a e = grind (arith, e)
@@ -130,7 +132,7 @@ module _ (domains : List Domain) (m : Graph) where
   aspect_behind front x next rows e f = same_front front next (front.division + divisions_in_any x) rows (front.rows ++ divisions_any (limit_of domains m) front.fields front.division x) front.conditions front.conditions e f refl
 
   pub size_is : (type : Option Domain) (front mid : Front) (link : Arrow) (first : Linear) → mid ≡ Made.after_any domains m link.first (after_end domains m front link) → first ≡ first_form (goal_step domains m front.fields front.division link)
-      → Made.size_behind type first link.size mid ≡ size_form type (goal_step domains m front.fields front.division link)
+      → Stages.size_behind type first link.size mid ≡ size_form type (goal_step domains m front.fields front.division link)
   size_is (Some t) front mid link first h e = refl
   size_is None front mid link first h e =
       ap (λ (x : Front). form_or link.size x.fields x.division (minus bits first)) h
@@ -160,7 +162,7 @@ module _ (domains : List Domain) (m : Graph) where
       ∙ whole_behind domains m front link k8 refl
 
   pub grid_on : (front mid last new : Front) (link : Arrow) (first size : Linear) (f : Form) → Made.target_type domains m link ≡ None → mid ≡ Made.after_target domains m link front → Made.IsTarget domains m link front first size → f ≡ grid_formula first size mid.division
-      → last ≡ formula_behind (f ∷ []) mid → new ≡ units_behind (Made.grid_units domains m last.division link) 2 last → new ≡ behind (QueryOf.grid_asked domains m front.fields front.division link) front
+      → last ≡ formula_behind (f ∷ []) mid → new ≡ units_behind (Stages.grid_units domains m last.division link) 2 last → new ≡ behind (QueryOf.grid_asked domains m front.fields front.division link) front
   grid_on front mid last new link first size f n e t k l h =
       let step = goal_step domains m front.fields front.division link in
       let behind_first = Made.after_any domains m link.first (after_end domains m front link) in
@@ -170,8 +172,8 @@ module _ (domains : List Domain) (m : Graph) where
       let at = e ∙ ap (λ (x : Option Domain). Made.after_any domains m (size_aspect x link.size) behind_first) n in
       let extends = t.extends ∙ ap (λ (x : Option Domain). size_form x step) n in
       let is = k ∙ ap (λ (x : Linear). grid_formula x size mid.division) t.begins ∙ ap (λ (x : Linear). grid_formula (first_form step) x mid.division) extends ∙ ap (λ (x : Front). grid_formula (first_form step) (size_form None step) x.division) at in
-      h ∙ ap (λ (x : Front). units_behind (Made.grid_units domains m x.division link) 2 x) (formula_on mid last there f formula l at is)
-      ∙ sym (asked_behind domains m front link link.first link.size (formula ∷ []) (Made.grid_units domains m q link) 2)
+      h ∙ ap (λ (x : Front). units_behind (Stages.grid_units domains m x.division link) 2 x) (formula_on mid last there f formula l at is)
+      ∙ sym (asked_behind domains m front link link.first link.size (formula ∷ []) (Stages.grid_units domains m q link) 2)
 
 pub cover_many : (fs : List FieldForms) (first : Linear) (branches all : List Form) (before : Form) → 1 ≤ length fs → branches ≡ map (λ f. above f.end first) (formed_all fs) → before ≡ All (map (λ f. above first f.end) (formed_all fs)) → all ≡ branches ++ before ∷ []
     → Any all ≡ cover_formula (formed_all fs) first

@@ -8,18 +8,15 @@ use Rattle.rx_forms.specs.declared.linear.Linear.{Linear}
 use Rattle.rx_forms.specs.declared.linear.Form.{Form, AtLeast, All}
 use Rattle.rx_forms.specs.Steps.{Step}
 use Rattle.rx_layout.specs.declared.parts.Parts.{Parts}
-use Rattle.rx_layout.specs.Parts.{row_of, all_of, parts_of}
+use Rattle.rx_layout.specs.Parts.{row_of, nothing, joined, all_of, parts_of}
 use Rattle.rx_layout.specs.QueryOf.{rows}
 use Rattle.rx_layout.proofs.Gathered.{parts_at_least, parts_all}
 
 abbrev parts_with : List Row → List (List Query) → Parts
 parts_with rows either = record { rows = rows; either = either }
 
-abbrev joined : Parts → Parts → Parts
-joined p q = record { rows = p.rows ++ q.rows; either = p.either ++ q.either }
-
 module _ (n : ℕ) where
-  all_append : (ps qs : List Parts) → all_of (ps ++ qs) ≡ joined (all_of ps) (all_of qs)
+  pub all_append : (ps qs : List Parts) → all_of (ps ++ qs) ≡ joined (all_of ps) (all_of qs)
   all_append [] qs = refl
   all_append (p ∷ ps) qs =
       ap (λ x. joined p x) (all_append ps qs)
@@ -57,3 +54,35 @@ module _ (n : ℕ) where
       ∙ sym (all_append (map (parts_of n) front) (map (parts_of n) last))
       ∙ ap all_of (sym (map-append (parts_of n) front last))
       ∙ sym (parts_all n (front ++ last))
+
+  -- rows one by one, and all in one fact
+  one_by_one : (fs gs : List Linear) → all_of (map (parts_of n) (map (λ f. AtLeast f) fs ++ map (λ f. AtLeast f) gs)) ≡ all_of (map (parts_of n) (rows (fs ++ gs) ∷ []))
+  one_by_one fs gs = ap (λ x. all_of (map (parts_of n) x)) (sym (map-append (λ f. AtLeast f) fs gs)) ∙ each_row (fs ++ gs) ∙ sym (only_rows (fs ++ gs))
+
+  -- what stands behind the same facts
+  behind_same : (front xs ys : List Form) → all_of (map (parts_of n) xs) ≡ all_of (map (parts_of n) ys) → all_of (map (parts_of n) (front ++ xs)) ≡ all_of (map (parts_of n) (front ++ ys))
+  behind_same front xs ys e =
+      ap all_of (map-append (parts_of n) front xs)
+      ∙ all_append (map (parts_of n) front) (map (parts_of n) xs)
+      ∙ ap (λ x. joined (all_of (map (parts_of n) front)) x) e
+      ∙ sym (all_append (map (parts_of n) front) (map (parts_of n) ys))
+      ∙ ap all_of (sym (map-append (parts_of n) front ys))
+
+  -- the facts of a path and those that are asked, then the rows of both
+  pub four_parts : (facts asked : List Form) (fs gs : List Linear)
+      → all_of (map (parts_of n) (facts ++ (asked ++ (map (λ f. AtLeast f) fs ++ map (λ f. AtLeast f) gs)))) ≡ parts_of n (All (facts ++ (asked ++ rows (fs ++ gs) ∷ [])))
+  four_parts facts asked fs gs =
+      behind_same facts (asked ++ (map (λ f. AtLeast f) fs ++ map (λ f. AtLeast f) gs)) (asked ++ rows (fs ++ gs) ∷ [])
+      (behind_same asked (map (λ f. AtLeast f) fs ++ map (λ f. AtLeast f) gs) (rows (fs ++ gs) ∷ []) (one_by_one fs gs))
+      ∙ sym (parts_all n (facts ++ (asked ++ rows (fs ++ gs) ∷ [])))
+
+  -- facts added behind others
+  added : (xs ys : List Form) (p q : Parts) → p ≡ all_of (map (parts_of n) xs) → q ≡ joined p (all_of (map (parts_of n) ys)) → q ≡ all_of (map (parts_of n) (xs ++ ys))
+  added xs ys p q e h =
+      h ∙ ap (λ x. joined x (all_of (map (parts_of n) ys))) e ∙ sym (all_append (map (parts_of n) xs) (map (parts_of n) ys)) ∙ ap all_of (sym (map-append (parts_of n) xs ys))
+
+  pub four_added : (one two three four : List Form) (p a b c d : Parts) → p ≡ nothing → a ≡ joined p (all_of (map (parts_of n) one)) → b ≡ joined a (all_of (map (parts_of n) two)) → c ≡ joined b (all_of (map (parts_of n) three))
+      → d ≡ joined c (all_of (map (parts_of n) four)) → d ≡ all_of (map (parts_of n) (one ++ (two ++ (three ++ four))))
+  four_added one two three four p a b c d e f g h k =
+      added ((one ++ two) ++ three) four c d (added (one ++ two) three b c (added one two a b (added [] one p a e f) g) h) k
+      ∙ ap (λ x. all_of (map (parts_of n) x)) (append_assoc (one ++ two) three four ∙ append_assoc one two (three ++ four))

@@ -7,31 +7,29 @@ use Rattle.rx_linear.proofs.Joining.{both, and_true}
 use Rattle.rx_types.specs.Domain.{Domain, size_of, IsProper}
 use Rattle.rx_graph.specs.Graph.{Graph, type_of, overlay_of}
 use Rattle.rx_forms.specs.declared.linear.Linear.{Linear}
-use Rattle.rx_forms.specs.declared.linear.Form.{AtLeast, All}
+use Rattle.rx_forms.specs.declared.linear.Form.{Form, AtLeast, All}
 use Rattle.rx_forms.specs.declared.field.FieldForms.{FieldForms}
-use Rattle.rx_forms.specs.declared.builder.Builder.{Builder}
 use Rattle.rx_forms.specs.Linear.{minus, equal}
 use Rattle.rx_forms.specs.Normal.{formed_of, bits}
 use Rattle.rx_forms.specs.Steps.{same_form, is_among}
 use Rattle.rx_forms.specs.Code.{number_by, formed, formed_all}
-use Rattle.rx_forms.specs.Fronts.{front_of}
 use Rattle.rx_layout.specs.Fitting.{fits, fits_row}
 use Rattle.rx_layout.specs.Made
 use Rattle.rx_layout.specs.Made.{typed, placed}
-use Rattle.rx_layout.specs.QueryOf.{rows, length_form}
+use Rattle.rx_layout.specs.QueryOf.{rows}
 use Rattle.rx_layout.proofs.Gathered.{fits_at_least, fits_all}
 use Rattle.rx_layout.proofs.Stepping.{term_length}
 use Rattle.rx_layout.proofs.Bounds.{under_more, minus_under, weighted_width, fits_by, IsLowTo, low_fits, difference_fits}
 use Rattle.rx_layout.proofs.Widths.{AreLowTo}
-use Rattle.rx_layout.proofs.FrontsFit.{IsFitting, found_low, each_wider, join_facts}
+use Rattle.rx_layout.proofs.FrontsFit.{found_low, each_wider, join_facts}
 use Rattle.rx_layout.proofs.TypesFit.{all_between, type_fits}
 
-each_row : (n : ℕ) (fs : List Linear) → list_all (fits_row n) fs ≡ true → list_all (fits n) (map (λ f. AtLeast f) fs) ≡ true
-each_row n [] h = refl
-each_row n (f ∷ fs) h = let p = both {a = fits_row n f} h in and_true (fits_at_least n f ∙ p.0) (each_row n fs p.1)
+pub row_facts_fit : (n : ℕ) (fs : List Linear) → list_all (fits_row n) fs ≡ true → list_all (fits n) (map (λ f. AtLeast f) fs) ≡ true
+row_facts_fit n [] h = refl
+row_facts_fit n (f ∷ fs) h = let p = both {a = fits_row n f} h in and_true (fits_at_least n f ∙ p.0) (row_facts_fit n fs p.1)
 
 pub rows_fit : (n : ℕ) (fs : List Linear) → list_all (fits_row n) fs ≡ true → fits n (rows fs) ≡ true
-rows_fit n fs h = fits_all n (map (λ f. AtLeast f) fs) ∙ each_row n fs h
+rows_fit n fs h = fits_all n (map (λ f. AtLeast f) fs) ∙ row_facts_fit n fs h
 
 always : (n : ℕ) → fits n (All []) ≡ true
 always n = fits_all n []
@@ -99,16 +97,13 @@ module _ (domains : List Domain) (m : Graph) (proper : (f : ℕ) (t : Domain) �
   overlays_fit before [] h l = refl
   overlays_fit before (f ∷ fs) h l = and_true (over_fits (overlay_of (slice_get m.fields f.field)) before f h l.0) (overlays_fit (before ++ f ∷ []) fs (behind_low before f h l.0) l.1)
 
-  pub gathered_fits : (b : Builder) → b.work.next ≤ n → IsFitting n (front_of b) → fits n (Made.gathered_form domains m b) ≡ true
-  gathered_fits b r h =
-      let fs = b.fields.items in
-      let low = each_wider b.work.next n (formed_all fs) r h.fields in
+  pub facts_fit : (d : ℕ) (fs : List FieldForms) (conditions : List Form) → d ≤ n → AllByRecursion (λ g. AreLowTo d g) (formed_all fs) → list_all (fits n) conditions ≡ true
+      → list_all (fits n) (Made.path_facts domains m fs conditions) ≡ true
+  facts_fit d fs conditions r h k =
+      let low = each_wider d n (formed_all fs) r h in
       let types = map (Made.typed_field domains m) fs in
       let places = map placed fs in
       let overlays = Made.laid_from domains m [] fs in
-      fits_all n (types ++ (length_form ∷ (places ++ (overlays ++ (b.conditions ++ rows b.work.rows ∷ [])))))
-      ∙ join_facts n types _ (types_fit fs low)
+      join_facts n types _ (types_fit fs low)
       (and_true (all_between n 0 (omega (arith, e)) 0 16777215 (omega arith) (omega arith))
-      (join_facts n places _ (places_fit fs low)
-      (join_facts n overlays _ (overlays_fit [] fs tt low)
-      (join_facts n b.conditions (rows b.work.rows ∷ []) h.conditions (and_true (rows_fit n b.work.rows h.rows) refl)))))
+      (join_facts n places _ (places_fit fs low) (join_facts n overlays conditions (overlays_fit [] fs tt low) k)))

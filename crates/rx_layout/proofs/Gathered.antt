@@ -1,8 +1,9 @@
 -- What the parts of a fact are at each kind of fact, and that they fit a system.
-use Rattle.std.proofs.Common.{◌≡◌, refl, sym, ap, subst, ◌∙◌, ℕ, zero, suc, ◌+◌, ◌-◌, ◌<◌, ◌≤◌, ◌^◌, arith, List, [], ◌∷◌, map, length, replicate, drop, get_or, Bool, true, ◌&&◌, ℤ, pos, neg_ℤ, unsigned_abs}
+use Rattle.std.proofs.Common.{◌≡◌, refl, sym, ap, subst, ◌∙◌, ℕ, zero, suc, ◌+◌, ◌-◌, ◌<◌, ◌≤◌, ◌^◌, arith, List, [], ◌∷◌, ◌++◌, map, length, replicate, drop, get_or, Bool, true, ◌&&◌, ℤ, pos, neg_ℤ, unsigned_abs}
 use Rattle.std.specs.Prelude.{nat_le, nat_lt, Result, Ok, Err, IfOk}
 use Rattle.std.specs.List.{All, list_all}
 use Rattle.std.proofs.lemmas.Int.{ints}
+use Rattle.std.proofs.lemmas.List.Folds.{list_all-append}
 use Rattle.std.proofs.lemmas.List.{length-append, drop_more}
 use Rattle.std.proofs.lemmas.List.Elements.{All-append, All-cons, All-nil}
 use Rattle.rx_linear.specs.Rows.{AllBelow, all_below}
@@ -136,6 +137,12 @@ item_fits n forms i form l is h =
 
 pub parts_within : (n : ℕ) (form : Form) (parts : Parts) → n ≤ 192 → fits n form ≡ true → parts ≡ parts_of n form → IsWithinLimits n parts.rows
 parts_within n form parts few h is = subst (λ (p : Parts). IsWithinLimits n p.rows) (sym is) (within_limits n form few h)
+
+pub facts_split : (n : ℕ) (xs ys : List Form) → list_all (fits n) (xs ++ ys) ≡ true → (list_all (fits n) xs ≡ true) × (list_all (fits n) ys ≡ true)
+facts_split n xs ys h = both {a = list_all (fits n) xs} (sym (list_all-append (fits n) xs ys) ∙ h)
+
+pub facts_within : (n : ℕ) (forms : List Form) (parts : Parts) → n ≤ 192 → list_all (fits n) forms ≡ true → parts ≡ all_of (map (parts_of n) forms) → IsWithinLimits n parts.rows
+facts_within n forms parts few h is = parts_within n (AllOf forms) parts few (fits_all n forms ∙ h) (is ∙ sym (parts_all n forms))
 
 pub if_ok : {X E : Type 0} (r : Result X E) (P Q : X → Type 0) → ((x : X) → P x → Q x) → IfOk r P → IfOk r Q
 if_ok (Ok x) P Q f h = f x h

@@ -23,6 +23,7 @@ pub mod TypesFit
 pub mod Units
 pub mod Whole
 pub mod Joining
+pub mod Laying
 pub mod Linked
 pub mod Listing
 pub mod Lists
@@ -33,6 +34,7 @@ pub mod Placed
 pub mod Placing
 pub mod RowsFit
 pub mod Satisfied
+pub mod Stages
 pub mod Stepping
 pub mod Taking
 pub mod Targets

@@ -1,8 +1,10 @@
 pub mod Fitting
 pub mod Goals
 pub mod Laws
+pub mod Laid
 pub mod Listed
 pub mod Made
 pub mod Parts
 pub mod QueryOf
+pub mod TypedPath
 pub mod Types

@@ -1,12 +1,13 @@
--- What the code makes of the fields of a path, and of what is asked at its end.
+-- What the code makes of the fields of a path, and what a check asks behind it.
 --   typed, placed, laid, laid_from    the facts of a field's type, of its place, and of the field below it
 --   as_long                           whether two scalars have one size
 --   HasSmallTypes, HasProperTypes     every scalar has fewer than 64 bits, and a type as it may be declared
 --   asked_link check                  what a check of one link asks
 --   behind asked                      what stands behind a path, where this is asked too
+--   after_any, after_target, IsTarget    behind a First or a Size, behind the target of a link, and its First and Size
+--   path_front, path_facts            what is gathered along a path, and the facts of its fields and links
 use Rattle.std.specs.Prelude.{◌≡◌, ◌<◌, List, [], ◌∷◌, ◌++◌, map, ℕ, ◌+◌, ◌==◌, Bool, false, Option, Some, None, slice_get}
 use Rattle.rx_types.specs.Domain.{Domain, size_of, IsProper}
-use Rattle.rx_types.specs.Narrow.{places_in_bits}
 use Rattle.rx_types.specs.Tree.{Tree}
 use Rattle.rx_graph.specs.Graph.{Arrow, Graph, type_of, overlay_of, limit_of}
 use Rattle.rx_forms.specs.declared.linear.Linear.{Linear}
@@ -14,17 +15,14 @@ use Rattle.rx_forms.specs.declared.linear.Form.{Form, All}
 use Rattle.rx_forms.specs.declared.field.FieldForms.{FieldForms}
 use Rattle.rx_forms.specs.Linear.{minus}
 use Rattle.rx_forms.specs.Normal.{Formed, formed_of, bits}
-use Rattle.rx_forms.specs.Steps.{is_among, links_on, scalars_on, same_form, target_field, form_or, size_aspect, divisions_in_any, divisions_any, first_form, size_form}
-use Rattle.rx_forms.specs.Worked.{size_otherwise}
+use Rattle.rx_forms.specs.Steps.{is_among, links_on, scalars_on, same_form, target_field, size_aspect, divisions_in_any, divisions_any, first_form, size_form}
 use Rattle.rx_forms.specs.Gathered.{into_fields}
-use Rattle.rx_forms.specs.declared.builder.Builder.{Builder}
 use Rattle.rx_forms.specs.Code.{number_by, formed_all}
 use Rattle.rx_forms.specs.Fronts.{Front, first_front, after_links, after_end}
-use Rattle.rx_layout.specs.declared.goal.Goal.{Goal}
 use Rattle.rx_layout.specs.declared.checklist.LinkCheck.{LinkCheck}
 use Rattle.rx_layout.specs.declared.checklist.LinkCheck.TheVariants.{Taken, Position, Grid, Overlay, Cover, Whole}
 use Rattle.rx_layout.specs.Types.{type_form}
-use Rattle.rx_layout.specs.QueryOf.{Asked, rows, length_form, asked_by, goal_step, unit_rows, interval_or, rest_interval, taken_asked, position_asked, grid_asked, overlay_on, cover_to, whole_asked}
+use Rattle.rx_layout.specs.QueryOf.{Asked, rows, length_form, goal_step, taken_asked, position_asked, grid_asked, overlay_on, cover_to, whole_asked}
 
 -- the number of a scalar is one of its type
 abbrev pub typed : Option Domain → Option ℕ → Form
@@ -75,18 +73,6 @@ module _ (domains : List Domain) (m : Graph) where
 abbrev pub behind : Asked → Front → Front
 behind asked front = record front { division = asked.variables; rows = front.rows ++ asked.divisions; conditions = front.conditions ++ asked.forms }
 
--- ---- what is asked, step by step
-
-abbrev pub formula_behind : List Form → Front → Front
-formula_behind formula front = record front { conditions = front.conditions ++ formula }
-
-abbrev pub units_behind : List Linear → ℕ → Front → Front
-units_behind units quotients front = record front { division = front.division + quotients; rows = front.rows ++ units }
-
--- the Size of a target with that First, where the front is behind the First
-abbrev pub size_behind : Option Domain → Linear → Option Tree → Front → Linear
-size_behind type first size front = form_or (size_aspect type size) front.fields front.division (size_otherwise type first)
-
 module _ (domains : List Domain) (m : Graph) where
   -- the divisions of a First or a Size
   abbrev pub after_any : Option Tree → Front → Front
@@ -104,11 +90,7 @@ module _ (domains : List Domain) (m : Graph) where
     pub begins : first ≡ first_form (goal_step domains m front.fields front.division link)
     pub extends : size ≡ size_form (target_type link) (goal_step domains m front.fields front.division link)
 
-  -- the rows of the quotients by 8 of First and Size
-  abbrev pub grid_units : ℕ → Arrow → List Linear
-  grid_units q link = unit_rows q (interval_or (limit_of domains m) link.first places_in_bits) ++ unit_rows (q + 1) (interval_or (limit_of domains m) link.size rest_interval)
-
--- ---- a path with its goal
+-- ---- a path
 
 module _ (domains : List Domain) (m : Graph) where
   -- behind the links of the path into fields
@@ -117,16 +99,7 @@ module _ (domains : List Domain) (m : Graph) where
       let links = into_fields (links_on domains m path) in
       after_links domains m (first_front (scalars_on domains m links)) links
 
-  abbrev pub behind_path : List ℕ → Goal → Front
-  behind_path path goal =
-      let front = path_front path in
-      behind (asked_by domains m goal front.fields front.division) front
-
-  -- all that was gathered, as one fact
-  abbrev pub gathered_form : Builder → Form
-  gathered_form b =
-      All (map (typed_field domains m) b.fields.items
-      ++ (length_form ∷ (map placed b.fields.items
-      ++ (laid_from domains m [] b.fields.items
-      ++ (b.conditions
-      ++ rows b.work.rows ∷ [])))))
+  -- types, length, places and overlays of the fields, and the conditions of the links
+  abbrev pub path_facts : List FieldForms → List Form → List Form
+  path_facts fields conditions =
+      map (typed_field domains m) fields ++ (length_form ∷ (map placed fields ++ (laid_from domains m [] fields ++ conditions)))

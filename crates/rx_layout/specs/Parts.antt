@@ -1,5 +1,6 @@
 -- The rows and disjunctions of a fact, over a number of variables.
 --   row_of, false_row a sum that is at least 0, and 0 >= 1
+--   joined            the parts of two
 --   all_of, one_of    the parts of all of some facts, and of one of them
 --   parts_of          those of a fact
 --   query_of          the query that has these parts
@@ -31,9 +32,12 @@ abbrev pub query_of : ℕ → Parts → Query
 query_of n parts = roll-Query (record { system = record { variables = n; rows = parts.rows }; either = parts.either })
 
 -- rows behind rows, and disjunctions behind disjunctions
+abbrev pub joined : Parts → Parts → Parts
+joined p q = record { rows = p.rows ++ q.rows; either = p.either ++ q.either }
+
 abbrev pub all_of : List Parts → Parts
 all_of [] = nothing
-all_of (p ∷ ps) = record { rows = p.rows ++ (all_of ps).rows; either = p.either ++ (all_of ps).either }
+all_of (p ∷ ps) = joined p (all_of ps)
 
 -- a disjunction with one branch is that branch, one without branches is a false row
 abbrev pub one_of : ℕ → List Parts → Parts

@@ -1,4 +1,5 @@
 // Why a call gave no query.
+use rx_forms::FormFault;
 use std::alloc::{AllocError, AllocFailed};
 
 /// Want of memory.
@@ -13,6 +14,12 @@ impl From<AllocError> for NoMemory {
 
 impl<T: Drop> From<AllocFailed<T>> for NoMemory {
     fn from(_: AllocFailed<T>) -> Self {
+        NoMemory
+    }
+}
+
+impl From<FormFault> for NoMemory {
+    fn from(_: FormFault) -> Self {
         NoMemory
     }
 }

@@ -7,7 +7,6 @@ ghost use Rattle.rx_forms.specs.Normal.{bits};
 ghost use Rattle.rx_forms.specs.Steps.{is_among};
 ghost use Rattle.rx_forms.specs.Code.{formed_all};
 ghost use Rattle.rx_layout.specs.Made.{placed, as_long, typed_field, laid_over, laid, laid_from};
-ghost use Rattle.rx_layout.specs.QueryOf.{rows};
 
 use crate::laws::types_are_proper;
 use crate::types::type_form;
@@ -110,16 +109,16 @@ pub fn add_places(
     Ok(())
 }
 
-/// Each of some sums is at least 0.
-pub fn rows_form(alloc: Global, sums: &[Linear]) -> Result<Form, FormFault>
-    ensures { IfOk result (λ f. f ≡ rows sums.now) }
+/// A fact for each of some sums, that it is at least 0.
+pub fn row_facts(alloc: Global, sums: &[Linear]) -> Result<Items<Form>, FormFault>
+    ensures { IfOk result (λ facts. facts ≡ map (λ f. Form.AtLeast f) sums.now) }
 {
-    let mut forms = Items::new(alloc);
+    let mut facts = Items::new(alloc);
     for sum in sums {
         let row = copy(alloc, sum)?;
-        push_row(&mut forms, row)?;
+        push_row(&mut facts, row)?;
     }
-    Ok(Form::All(forms))
+    Ok(facts)
 }
 
 // ---- overlays

@@ -7,8 +7,11 @@ mod fault;
 mod fields;
 mod formula;
 mod goal;
+mod goal_parts;
 mod laws;
 mod parts;
+mod path_end;
+mod path_forms;
 mod querying;
 mod types;
 
@@ -19,5 +22,5 @@ pub use laws::{
     goals_are_checks, goals_are_listed, goals_have_points, points_meet_goals, queries_are_bounded,
     queries_are_even,
 };
-pub use parts::{Parts, query_of_form};
+pub use path_forms::PathForms;
 pub use querying::{path_query, query};

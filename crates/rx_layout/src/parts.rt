@@ -3,7 +3,7 @@ ghost use Rattle.std.specs.Prelude.{◌≡◌, ◌≤◌, ◌++◌, ◌∷◌, [
 ghost use Rattle.std.specs.List.{list_all};
 ghost use Rattle.rx_linear.specs.Systems.{IsWithinLimits};
 ghost use Rattle.rx_layout.specs.Fitting.{fits, fits_row};
-ghost use Rattle.rx_layout.specs.Parts.{row_of, false_row, query_of, parts_of, nothing, all_of, one_of};
+ghost use Rattle.rx_layout.specs.Parts.{row_of, false_row, query_of, parts_of, nothing, joined, all_of, one_of};
 
 use crate::fault::NoMemory;
 use rx_forms::{Form, Linear};
@@ -152,12 +152,36 @@ fn branches(alloc: Global, variables: usize, forms: &[Form]) -> Result<Items<Que
     Ok(Items::from_vec(queries))
 }
 
-/// The query over that many variables whose points are those at which the fact holds.
-pub fn query_of_form(alloc: Global, variables: usize, form: &Form) -> Result<Query, NoMemory>
+/// Adds the parts of each of some facts.
+#[tactic(none)]
+fn add(alloc: Global, variables: usize, forms: &[Form], parts: &mut Parts) -> Result<(), NoMemory>
     requires few { variables ≤ 192 }
-    requires fits { fits variables form.now ≡ true }
-    ensures { IfOk result (λ query. query ≡ query_of variables (parts_of variables form.now)) }
+    requires fits { list_all (fits variables) forms.now ≡ true }
+    ensures { OnOk result (parts.new ≡ joined parts.old (all_of (map (parts_of variables) forms.now))) }
 {
-    let parts = parts_of(alloc, variables, form)?;
+    let more = all_of(alloc, variables, forms)?;
+    append(parts, more)
+}
+
+/// The query over that many variables whose points are those at which the facts of a path and the facts that are asked hold, and
+/// then the rows of the path and those that are asked.
+#[tactic(none)]
+pub fn query_of_all(
+    alloc: Global,
+    variables: usize,
+    facts: &[Form],
+    asked: &[Form],
+    rows: &[Form],
+    last: &[Form],
+) -> Result<Query, NoMemory>
+    requires few { variables ≤ 192 }
+    requires fits { list_all (fits variables) (facts.now ++ (asked.now ++ (rows.now ++ last.now))) ≡ true }
+    ensures { IfOk result (λ query. query ≡ query_of variables (all_of (map (parts_of variables) (facts.now ++ (asked.now ++ (rows.now ++ last.now)))))) }
+{
+    let mut parts = nothing(alloc);
+    add(alloc, variables, facts, &mut parts)?;
+    add(alloc, variables, asked, &mut parts)?;
+    add(alloc, variables, rows, &mut parts)?;
+    add(alloc, variables, last, &mut parts)?;
     Ok(query_of(variables, parts))
 }
