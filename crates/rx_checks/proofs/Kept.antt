@@ -1,10 +1,10 @@
--- The paths to the nodes of a message, one node after the other.
-use Rattle.std.proofs.Common.{◌≡◌, refl, sym, ap, subst, ◌∙◌, ℕ, zero, suc, ◌+◌, ◌<◌, arith, List, [], ◌∷◌, ◌++◌, length, length-append, get_or, inl, inr}
+-- The goals of a message, their sources, and how many paths lead there.
+use Rattle.std.proofs.Common.{refl, ap, subst, ℕ, arith, List, [], ◌∷◌, length, inl, inr}
 use Rattle.std.specs.List.{AllByRecursion}
 use Rattle.rx_types.specs.Domain.{Domain}
 use Rattle.rx_graph.specs.declared.message.Node.{Node}
 use Rattle.rx_graph.specs.Graph.{Arrow, Graph}
-use Rattle.rx_graph.specs.Cycles.{ArePathsTo, HasPathsUpTo, HasMorePathsTo}
+use Rattle.rx_graph.specs.Cycles.{HasPathsUpTo, HasMorePathsTo}
 use Rattle.rx_graph.specs.Elaborated.{IsElaborated, IsSource}
 use Rattle.rx_graph.specs.Laws.{HasOneList}
 use Rattle.rx_graph.specs.Checks.{IsNumbered}
@@ -12,30 +12,6 @@ use Rattle.rx_layout.specs.declared.goal.Goal.{Goal}
 use Rattle.rx_layout.specs.declared.goal.Goal.TheVariants.{Exclusive, Taken, Reached, Position, Grid, Overlay, Cover, Whole}
 use Rattle.rx_layout.specs.Goals.{source, IsGoal}
 use Rattle.rx_layout.specs.Listed.{Among}
-use Rattle.rx_checks.specs.declared.table.NodePaths.{NodePaths}
-use Rattle.rx_checks.specs.Table.{node_at, HavePaths}
-
-pub have_push : (m : Graph) (k : ℕ) (table : List NodePaths) (entry : NodePaths) → HavePaths m k table → ArePathsTo m (node_at (k + length table)) entry.paths.items → HavePaths m k (table ++ entry ∷ [])
-have_push m k [] entry h a = (subst (λ n. ArePathsTo m (node_at n) entry.paths.items) (omega arith) a, tt)
-have_push m k (x ∷ xs) entry h a = (h.0, have_push m (suc k) xs entry h.1 (subst (λ n. ArePathsTo m (node_at n) entry.paths.items) (omega arith) a))
-
-pub have_at : (m : Graph) (k i : ℕ) (table : List NodePaths) (entry : NodePaths) → HavePaths m k table → i < length table → entry ≡ get_or table i entry → ArePathsTo m (node_at (k + i)) entry.paths.items
-have_at m k i [] entry h l e = absurd (omega (arith, l))
-have_at m k zero (x ∷ xs) entry h l e =
-    subst (λ (y : NodePaths). ArePathsTo m (node_at (k + 0)) y.paths.items) (sym e) (subst (λ n. ArePathsTo m (node_at n) x.paths.items) (omega arith) h.0)
-have_at m k (suc i) (x ∷ xs) entry h l e = subst (λ n. ArePathsTo m (node_at n) entry.paths.items) (omega arith) (have_at m (suc k) i xs entry h.1 (omega (arith, l)) e)
-
--- one more node
-pub kept_more : (m : Graph) (old new : List NodePaths) (entry : NodePaths) (place : ℕ) (node : Node) → new ≡ old ++ entry ∷ [] → length old ≡ place → HavePaths m 0 old → node ≡ node_at place → ArePathsTo m node entry.paths.items → (length new ≡ place + 1) × HavePaths m 0 new
-kept_more m old new entry place node e l h n a =
-    let p : node ≡ node_at (0 + length old) = n ∙ ap node_at (omega (arith, l)) in (
-      omega (arith, ap (λ (t : List NodePaths). length t) e, length-append old (entry ∷ []), l),
-      subst (λ (t : List NodePaths). HavePaths m 0 t) (sym e) (have_push m 0 old entry h (subst (λ (x : Node). ArePathsTo m x entry.paths.items) p a)),
-    )
-
-pub paths_kept : (m : Graph) (table : List NodePaths) (place : ℕ) (entry : NodePaths) (node : Node) → HavePaths m 0 table → place < length table → entry ≡ get_or table place entry → node_at place ≡ node → ArePathsTo m node entry.paths.items
-paths_kept m table place entry node h l e n =
-    subst (λ (x : Node). ArePathsTo m x entry.paths.items) (ap node_at (omega arith) ∙ n) (have_at m 0 place table entry h l e)
 
 pub all_listed : (P : Goal → Type 0) (goals : List Goal) → ((g : Goal) → Among g goals → P g) → AllByRecursion P goals
 all_listed P [] h = tt

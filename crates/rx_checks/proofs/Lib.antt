@@ -3,4 +3,5 @@ pub mod OneReport
 pub mod Soundness
 pub mod Kept
 pub mod Judged
+pub mod NextLines
 pub mod Numbered

@@ -15,8 +15,8 @@ use Rattle.rx_graph.specs.declared.message.Node.TheVariants.{Start, At}
 use Rattle.rx_graph.specs.Graph.{Arrow, Graph, type_of, scalar_of}
 use Rattle.rx_graph.specs.Elaborated.{IsElaborated, IsFieldType}
 use Rattle.rx_graph.specs.Paths.{Leads, HasNumber}
-use Rattle.rx_forms.specs.Carried
-use Rattle.rx_forms.specs.Carried.{number_if}
+use Rattle.rx_forms.specs.Points
+use Rattle.rx_forms.specs.Points.{number_if}
 use Rattle.rx_forms.specs.Steps
 use Rattle.rx_forms.specs.Steps.{link_then, target_field, scalars_in}
 use Rattle.rx_forms.proofs.Carrying.{numbers_length}
@@ -61,12 +61,12 @@ module _ (domains : List Domain) (m : Graph) where
   number_natural None n p h = tt
   number_natural (Some t) n p h = ((n, refl, number_small t n (p t refl) h), tt)
 
-  pub numbers_natural : IsElaborated domains m → (total : ℕ) (before : List Placed) (at : Node) (path : List ℕ) (fields : List Placed) (end : Node) → Leads domains m total before at path fields end → AllByRecursion (IsNatural (2 ^ 64)) (Carried.numbers_of domains m fields)
+  pub numbers_natural : IsElaborated domains m → (total : ℕ) (before : List Placed) (at : Node) (path : List ℕ) (fields : List Placed) (end : Node) → Leads domains m total before at path fields end → AllByRecursion (IsNatural (2 ^ 64)) (Points.numbers_of domains m fields)
   numbers_natural el total before at [] [] end h = tt
   numbers_natural el total before at [] (p ∷ fields) end h = absurd h
   numbers_natural el total before at (i ∷ path) [] end h = absurd h
   numbers_natural el total before at (i ∷ path) (p ∷ fields) end h =
-      all_append (IsNatural (2 ^ 64)) (number_if (type_of domains m p.field) p.number) (Carried.numbers_of domains m fields)
+      all_append (IsNatural (2 ^ 64)) (number_if (type_of domains m p.field) p.number) (Points.numbers_of domains m fields)
       (number_natural (type_of domains m p.field) p.number (λ t e. field_proper el p.field (slice_get m.fields p.field) t refl e) h.3.number)
       (numbers_natural el total (before ++ p ∷ []) (At p.field) path fields end h.4)
 
@@ -94,7 +94,7 @@ module _ (domains : List Domain) (m : Graph) where
     pub met : MetBy domains m goal total path fields
     pub long : count < length point
     pub first : get_or point 0 (pos 0) ≡ pos total
-    pub numbers : take count (drop 1 point) ≡ Carried.numbers_of domains m fields
+    pub numbers : take count (drop 1 point) ≡ Points.numbers_of domains m fields
 
   heads : (a b : ℤ) (xs ys : List ℤ) → a ∷ xs ≡ b ∷ ys → a ≡ b
   heads a b xs ys e = cc
@@ -121,7 +121,7 @@ module _ (domains : List Domain) (m : Graph) where
 
   pub front_of : (goal : Goal) (path : List ℕ) (point : List ℤ) (count : ℕ) → Laws.Meets domains m goal path point → count ≡ Steps.scalars_on domains m (Steps.links_on domains m path) → IsFront goal path point count
   front_of goal path point count h c =
-      let numbers = Carried.numbers_of domains m h.1 in
+      let numbers = Points.numbers_of domains m h.1 in
       let l = numbers_length domains m h.0 [] Start path h.1 (source goal) h.2.partial.leads in
       let parts = cut_parts h.0 count numbers point (c ∙ sym l) h.3 in
       record { total = h.0; fields = h.1; met = h.2; long = parts.0; first = parts.1; numbers = parts.2 }

@@ -16,7 +16,7 @@ use Rattle.rx_graph.proofs.Lengths.{length_fits}
 use Rattle.rx_graph.proofs.OneFit.{one_fit}
 use Rattle.rx_graph.proofs.Exclusions.{exclusive_from_checks}
 use Rattle.rx_graph.proofs.Unique.{one_path}
-use Rattle.rx_forms.specs.Steps.{AreFormable, AreNarrow}
+use Rattle.rx_forms.specs.Links.{AreFormable, AreNarrow}
 use Rattle.rx_proof.specs.declared.proof.Proof.{Proof}
 use Rattle.rx_proof.proofs.Exclusion.{accepts_sound}
 use Rattle.rx_prover.specs.Answers.{HasNoPoint}

@@ -1,6 +1,7 @@
 pub mod Laws
+pub mod Lines
+pub mod ReachedPath
 pub mod Reports
 pub mod Steps
-pub mod Table
 pub mod Told
 pub mod Verdicts

@@ -14,7 +14,7 @@ use Rattle.rx_proof.specs.Acceptance.{root}
 use Rattle.rx_proof.specs.declared.proof.Proof.{Proof}
 use Rattle.rx_prover.specs.Answers.{IsClosed, IsProper}
 use Rattle.rx_prover.specs.Walk.{Reached, Past, AtPoint, Over, walk}
-use Rattle.rx_forms.specs.Carried.{numbers_of}
+use Rattle.rx_forms.specs.Points.{numbers_of}
 use Rattle.rx_layout.specs.declared.goal.Goal.{Goal}
 use Rattle.rx_layout.specs.Goals.{source, is_universal, MetBy}
 use Rattle.rx_layout.specs.QueryOf.{query_for}

@@ -1,25 +1,22 @@
-//! The verdict on one check.
+//! The verdict on one check, from the verdict on the paths so far and the walk of one more.
 
-ghost use Rattle.std.specs.Prelude.{◌≡◌, ◌≢◌, List, ℕ, ◌∷◌, IfOk, MatchOption};
+ghost use Rattle.std.specs.Prelude.{◌≡◌, ◌≢◌, List, [], ◌∷◌, ◌++◌, ℕ, IfOk, MatchOption};
 ghost use Rattle.std.specs.List.{AllByRecursion};
-ghost use Rattle.rx_graph.specs.declared.message.Node.TheVariants.{Start};
-ghost use Rattle.rx_graph.specs.Cycles.{IsPath};
-ghost use Rattle.rx_proof.specs.Acceptance.{root};
-ghost use Rattle.rx_prover.specs.Answers.{IsProper};
-ghost use Rattle.rx_prover.specs.Walk.{AtPoint, Over};
-ghost use Rattle.rx_layout.specs.Goals.{source, IsGoal, is_universal};
+ghost use Rattle.rx_types.specs.Domain.{Domain};
+ghost use Rattle.rx_graph.specs.Graph.{Graph};
+ghost use Rattle.rx_prover.specs.Walk.{AtPoint};
+ghost use Rattle.rx_layout.specs.Goals.{is_universal};
 ghost use Rattle.rx_layout.specs.Laws.{IsPoint};
-ghost use Rattle.rx_layout.specs.QueryOf.{query_for};
-ghost use Rattle.rx_checks.specs.Verdicts.{walk_of, IsVerdict};
-ghost use Rattle.rx_checks.specs.Told.{told, IsFirstPoint};
+ghost use Rattle.rx_checks.specs.ReachedPath.{Asks, query_at};
+ghost use Rattle.rx_checks.specs.Verdicts.{walk_of, AreClosed, IsVerdict};
+ghost use Rattle.rx_checks.specs.Told.{told, IsNextVerdict};
 
-use crate::asking::ask;
 use crate::fault::NoMemory;
-use crate::finding::evidence_at;
+use crate::reached_path::ReachedPath;
 use crate::verdict::{Evidence, Verdict};
-use rx_forms::Checkable;
 use rx_graph::Path;
 use rx_layout::Goal;
+use rx_proof::Proof;
 use rx_prover::{Answer, OpenTree, Splits};
 use std::alloc::Global;
 
@@ -45,120 +42,133 @@ fn told(passes: bool, evidence: Evidence) -> Verdict
     }
 }
 
-/// The verdict by a point of the query of a path, before which no path has one.
+/// The verdict by a proof for each path.
+fn closed(goal: &Goal, proofs: Vec<Proof>) -> Verdict
+    ensures { (domains : List Domain) (m : Graph) (splits : ℕ) (paths : List (List ℕ)) → AreClosed domains m splits goal.now paths proofs.items → IsVerdict domains m splits goal.now paths result }
+{
+    told(is_universal(goal), Evidence::Proofs(proofs))
+}
+
+/// The verdict over no paths.
+pub(crate) fn first_verdict(alloc: Global, goal: &Goal) -> Verdict
+    ensures { (domains : List Domain) (m : Graph) (splits : ℕ) → IsVerdict domains m splits goal.now [] result }
+{
+    closed(goal, Vec::new(alloc))
+}
+
+/// The verdict by a point of a path, behind paths without one.
 fn found(
     alloc: Global,
-    message: &Checkable<'_>,
-    splits: Splits,
+    path: &ReachedPath<'_>,
     goal: &Goal,
-    path: &Path,
     point: &[i128],
 ) -> Result<Verdict, NoMemory>
-    requires goal { IsGoal message.now.domains message.now.graph goal.now }
-    requires path { IsPath message.now.graph Start path.now (source goal.now) }
-    requires reached { walk_of message.now.domains message.now.graph splits goal.now path.now ≡ AtPoint }
-    requires point { IsPoint (query_for message.now.domains message.now.graph goal.now path.now) point.now }
-    ensures { IfOk result (λ verdict. (rest : List (List ℕ)) → IsVerdict message.now.domains message.now.graph splits goal.now (path.now ∷ rest) verdict) }
+    requires goal { Asks goal.now path.now }
+    requires point { IsPoint (query_at path.now goal.now) point.now }
+    ensures { IfOk result (λ verdict. (splits : ℕ) (before : List (List ℕ)) → walk_of path.now.domains path.now.graph splits goal.now path.now.path ≡ AtPoint → AllByRecursion (λ p. walk_of path.now.domains path.now.graph splits goal.now p ≢ AtPoint) before → IsVerdict path.now.domains path.now.graph splits goal.now (before ++ path.now.path ∷ []) verdict) }
 {
-    let evidence = evidence_at(alloc, message.elaborated(), goal, path, point)?;
+    let evidence = path.evidence(alloc, goal, point)?;
     Ok(told(!is_universal(goal), evidence))
 }
 
-/// The point to which the walk of the query of the path and the goal comes, if it comes to one.
-fn point_for(
+/// The verdict by a path whose walk needs more splits.
+fn undecided(alloc: Global, path: &ReachedPath<'_>, tree: OpenTree) -> Result<Verdict, NoMemory>
+    ensures { IfOk result (λ verdict. verdict ≡ Verdict.Undecided path.now.path tree) }
+{
+    let path = path.path().copy(alloc)?;
+    Ok(Verdict::Undecided { path, tree })
+}
+
+/// The verdict on one more path, behind paths that have proofs.
+fn behind_proofs(
     alloc: Global,
-    message: &Checkable<'_>,
+    path: &ReachedPath<'_>,
     splits: Splits,
     goal: &Goal,
-    path: &Path,
-) -> Result<Option<Vec<i128>>, NoMemory>
-    requires goal { IsGoal message.now.domains message.now.graph goal.now }
-    requires path { IsPath message.now.graph Start path.now (source goal.now) }
-    ensures { IfOk result (λ point. MatchOption point (walk_of message.now.domains message.now.graph splits goal.now path.now ≢ AtPoint) (λ p. (walk_of message.now.domains message.now.graph splits goal.now path.now ≡ AtPoint) × IsPoint (query_for message.now.domains message.now.graph goal.now path.now) p.items)) }
+    mut proofs: Vec<Proof>,
+) -> Result<Verdict, NoMemory>
+    requires { Asks goal.now path.now }
+    ensures { IfOk result (λ verdict. (before : List (List ℕ)) → AreClosed path.now.domains path.now.graph splits goal.now before proofs.items → IsVerdict path.now.domains path.now.graph splits goal.now (before ++ path.now.path ∷ []) verdict) }
 {
-    match ask(alloc, message, splits, goal, path)? {
+    match path.ask(alloc, splits, goal)? {
+        Answer::NoPoint(proof) => {
+            proofs.push(proof)?;
+            Ok(closed(goal, proofs))
+        }
+        Answer::Point(point) => found(alloc, path, goal, &point),
+        Answer::Undecided(tree) => undecided(alloc, path, tree),
+    }
+}
+
+/// The point to which the walk of the query of the path and the goal comes, if it comes to one.
+fn point_of(
+    alloc: Global,
+    path: &ReachedPath<'_>,
+    splits: Splits,
+    goal: &Goal,
+) -> Result<Option<Vec<i128>>, NoMemory>
+    requires { Asks goal.now path.now }
+    ensures { IfOk result (λ point. MatchOption point (walk_of path.now.domains path.now.graph splits goal.now path.now.path ≢ AtPoint) (λ p. (walk_of path.now.domains path.now.graph splits goal.now path.now.path ≡ AtPoint) × IsPoint (query_at path.now goal.now) p.items)) }
+{
+    match path.ask(alloc, splits, goal)? {
         Answer::NoPoint(_) => Ok(None),
         Answer::Point(point) => Ok(Some(point)),
         Answer::Undecided(_) => Ok(None),
     }
 }
 
-/// The verdict by the first path whose walk comes to a point, if there is one.
-fn first_point(
+/// The verdict on one more path, behind a path whose walk needs more splits: by the point of this one, if it has one.
+fn behind_undecided(
     alloc: Global,
-    message: &Checkable<'_>,
+    path: &ReachedPath<'_>,
     splits: Splits,
     goal: &Goal,
-    paths: &[Path],
-) -> Result<Option<Verdict>, NoMemory>
-    requires goal { IsGoal message.now.domains message.now.graph goal.now }
-    requires paths { AllByRecursion (λ p. IsPath message.now.graph Start p (source goal.now)) paths.now }
-    ensures { IfOk result (IsFirstPoint message.now.domains message.now.graph splits goal.now paths.now) }
-{
-    for path in paths {
-        if let Some(point) = point_for(alloc, message, splits, goal, path)? {
-            let verdict = found(alloc, message, splits, goal, path, &point)?;
-            return Ok(Some(verdict));
-        }
-    }
-    Ok(None)
-}
-
-/// The verdict by the first path whose walk needs more splits.
-fn undecided(alloc: Global, path: &Path, tree: OpenTree) -> Result<Verdict, NoMemory>
-    ensures { IfOk result (λ verdict. verdict ≡ Verdict.Undecided path.now tree) }
-{
-    let path = path.copy(alloc)?;
-    Ok(Verdict::Undecided { path, tree })
-}
-
-/// The verdict behind a path whose walk needs more splits: by a point of a later path, if one has it.
-fn later(
-    alloc: Global,
-    message: &Checkable<'_>,
-    splits: Splits,
-    goal: &Goal,
-    path: &Path,
+    first: Path,
     tree: OpenTree,
-    rest: &[Path],
 ) -> Result<Verdict, NoMemory>
-    requires goal { IsGoal message.now.domains message.now.graph goal.now }
-    requires paths { AllByRecursion (λ p. IsPath message.now.graph Start p (source goal.now)) rest.now }
-    requires over { walk_of message.now.domains message.now.graph splits goal.now path.now ≡ Over }
-    requires proper { IsProper (root (query_for message.now.domains message.now.graph goal.now path.now)) splits tree }
-    ensures { IfOk result (IsVerdict message.now.domains message.now.graph splits goal.now (path.now ∷ rest.now)) }
+    requires { Asks goal.now path.now }
+    ensures { IfOk result (IsNextVerdict path.now.domains path.now.graph splits goal.now (path.now.path ∷ []) (Verdict.Undecided first tree)) }
 {
-    match first_point(alloc, message, splits, goal, rest)? {
-        Some(verdict) => Ok(verdict),
-        None => undecided(alloc, path, tree),
+    match point_of(alloc, path, splits, goal)? {
+        Some(point) => found(alloc, path, goal, &point),
+        None => Ok(Verdict::Undecided { path: first, tree }),
     }
 }
 
-/// The verdict on a goal, where these are the paths to its source.
-pub(crate) fn judge(
+/// The verdict on one more path, behind paths that have proofs or of which one has a point. That point stays.
+fn behind_evidence(
     alloc: Global,
-    message: &Checkable<'_>,
+    path: &ReachedPath<'_>,
     splits: Splits,
     goal: &Goal,
-    paths: &[Path],
+    passes: bool,
+    evidence: Evidence,
 ) -> Result<Verdict, NoMemory>
-    requires goal { IsGoal message.now.domains message.now.graph goal.now }
-    requires paths { AllByRecursion (λ p. IsPath message.now.graph Start p (source goal.now)) paths.now }
-    ensures { IfOk result (IsVerdict message.now.domains message.now.graph splits goal.now paths.now) }
+    requires { Asks goal.now path.now }
+    ensures { IfOk result (IsNextVerdict path.now.domains path.now.graph splits goal.now (path.now.path ∷ []) (told passes evidence)) }
 {
-    let mut proofs = Vec::new(alloc);
-    for place in 0..paths.len() {
-        let path = &paths[place];
-        match ask(alloc, message, splits, goal, path)? {
-            Answer::NoPoint(proof) => proofs.push(proof)?,
-            Answer::Point(point) => {
-                return found(alloc, message, splits, goal, path, &point);
-            }
-            Answer::Undecided(tree) => {
-                let rest = &paths[place + 1..];
-                return later(alloc, message, splits, goal, path, tree, rest);
-            }
+    match evidence {
+        Evidence::Proofs(proofs) => behind_proofs(alloc, path, splits, goal, proofs),
+        shown => Ok(told(passes, shown)),
+    }
+}
+
+/// The verdict on one more path, from the verdict on the paths before it.
+pub(crate) fn next_verdict(
+    alloc: Global,
+    path: &ReachedPath<'_>,
+    splits: Splits,
+    goal: &Goal,
+    verdict: Verdict,
+) -> Result<Verdict, NoMemory>
+    requires { Asks goal.now path.now }
+    ensures { IfOk result (IsNextVerdict path.now.domains path.now.graph splits goal.now (path.now.path ∷ []) verdict) }
+{
+    match verdict {
+        Verdict::Passed(evidence) => behind_evidence(alloc, path, splits, goal, true, evidence),
+        Verdict::Failed(evidence) => behind_evidence(alloc, path, splits, goal, false, evidence),
+        Verdict::Undecided { path: first, tree } => {
+            behind_undecided(alloc, path, splits, goal, first, tree)
         }
     }
-    Ok(told(is_universal(goal), Evidence::Proofs(proofs)))
 }

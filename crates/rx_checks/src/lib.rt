@@ -2,15 +2,16 @@
 #![tactic(auto)]
 
 mod acceptance;
-mod asking;
 mod checking;
 mod counting;
 mod fault;
 mod finding;
 mod judging;
 mod laws;
+mod lines;
+mod node;
+mod reached_path;
 mod report;
-mod table;
 mod verdict;
 
 pub use acceptance::accepted;

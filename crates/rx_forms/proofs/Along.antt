@@ -22,8 +22,9 @@ use Rattle.rx_forms.specs.Normal.{Formed, formed_of, bits}
 use Rattle.rx_forms.specs.Divisions.{divisions}
 use Rattle.rx_forms.specs.Points.{HasPlace, Matches}
 use Rattle.rx_forms.specs.Steps
-use Rattle.rx_forms.specs.Carried.{CarriesLink, Carries}
-use Rattle.rx_forms.specs.Steps.{Step, IsFormable, AreFormable, IsNumericIfAny, IsNarrowLink, IsNarrowIfAny, AreNarrow, target_field, link_then, end_form, form_or, divisions_any, divisions_in_any, size_aspect, first_division, size_division, first_form, size_form, number_form, scalars_in, formed_by, condition_form, division_forms, place_forms, same_form, type_form_any, is_among}
+use Rattle.rx_forms.proofs.Carries.{CarriesLink, Carries}
+use Rattle.rx_forms.specs.Steps.{Step, target_field, link_then, end_form, form_or, divisions_any, divisions_in_any, size_aspect, first_division, size_division, first_form, size_form, number_form, scalars_in, formed_by, condition_form, division_forms, place_forms, same_form, type_form_any, is_among}
+use Rattle.rx_forms.specs.Links.{IsFormable, AreFormable, IsNarrowLink, AreNarrow}
 use Rattle.rx_forms.proofs.Sums.{at_minus, at_variable, at_constant}
 use Rattle.rx_forms.proofs.Quotients.{from_le, to_le, parts_of, of_parts}
 use Rattle.rx_forms.proofs.Conditions.{condition_meets, meets_none, meets_equal}

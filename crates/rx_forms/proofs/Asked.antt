@@ -13,7 +13,7 @@ use Rattle.rx_graph.specs.Elaborated.{IsElaborated}
 use Rattle.rx_graph.specs.Onward.{onward}
 use Rattle.rx_graph.proofs.Listed.{listed}
 use Rattle.rx_graph.proofs.Exclusions.{is_itself}
-use Rattle.rx_forms.specs.Gathered.{passes_limit}
+use Rattle.rx_forms.specs.Steps.{passes_limit}
 use Rattle.rx_forms.specs.PathLimit.{IsOut, numbers_from, ones_and_pairs, outs, keeps_limit_at, fields_from, every_node, keeps_limit, KeepsLimit}
 use Rattle.rx_forms.proofs.Few.{IsNode, ends_at_node, holds_of}
 

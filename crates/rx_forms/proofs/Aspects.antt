@@ -11,7 +11,7 @@ use Rattle.rx_forms.specs.Normal.{Formed, linear, divisions_in}
 use Rattle.rx_forms.specs.Limits.{is_low, all_kept, met, is_within}
 use Rattle.rx_forms.specs.Steps.{end_form, size_aspect}
 use Rattle.rx_forms.specs.Code.{formed_all}
-use Rattle.rx_forms.specs.Worked.{HasSum, HasAspect, aspect_within, size_otherwise}
+use Rattle.rx_forms.specs.Expressions.{HasSum, HasAspect, aspect_within, size_otherwise}
 use Rattle.rx_forms.proofs.Kept.{off_left, off_right, on_both}
 
 -- ---- the end of the last field

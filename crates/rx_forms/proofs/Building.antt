@@ -13,10 +13,9 @@ use Rattle.rx_forms.specs.Linear.{plus}
 use Rattle.rx_forms.specs.Normal.{Formed, divisions_in, condition}
 use Rattle.rx_forms.specs.Divisions.{divisions}
 use Rattle.rx_forms.specs.Limits.{Met, Limited, is_kept, is_low, all_kept, met, is_within}
-use Rattle.rx_forms.specs.Steps.{form_or, end_form, size_aspect, divisions_in_any, divisions_any, scalars_in, target_field, first_division, size_division, first_form, size_form, formed_by, condition_form, division_forms}
-use Rattle.rx_forms.specs.Gathered.{met_any, met_at}
+use Rattle.rx_forms.specs.Steps.{form_or, end_form, size_aspect, divisions_in_any, divisions_any, scalars_in, target_field, first_division, size_division, first_form, size_form, formed_by, condition_form, division_forms, met_any, met_at}
 use Rattle.rx_forms.specs.Code.{formed, formed_all}
-use Rattle.rx_forms.specs.Worked.{HasFact, HasAspect, aspect_within, size_otherwise}
+use Rattle.rx_forms.specs.Expressions.{HasFact, HasAspect, aspect_within, size_otherwise}
 use Rattle.rx_forms.specs.Fronts
 use Rattle.rx_forms.proofs.Kept.{off_left, off_right, on_both}
 use Rattle.rx_forms.proofs.Tests.{both}

@@ -9,12 +9,11 @@ use Rattle.rx_graph.specs.Graph.{Arrow, Graph, type_of}
 use Rattle.rx_graph.specs.Paths.{Leads, placed_by}
 use Rattle.rx_forms.specs.Normal.{divisions_in}
 use Rattle.rx_forms.specs.Divisions.{quotients}
-use Rattle.rx_forms.specs.Points.{Solves, SolvesAny}
+use Rattle.rx_forms.specs.Points.{Solves, SolvesAny, quotients_any, number_if}
 use Rattle.rx_forms.specs.Steps
-use Rattle.rx_forms.specs.Steps.{Step, target_field, link_then, size_aspect, scalars_in, divisions_in_any}
-use Rattle.rx_forms.specs.Carried
-use Rattle.rx_forms.specs.Carried.{quotients_any, number_if}
-use Rattle.rx_forms.specs.Gathered.{past}
+use Rattle.rx_forms.specs.Steps.{Step, target_field, link_then, size_aspect, scalars_in, divisions_in_any, past}
+use Rattle.rx_forms.proofs.Carries
+use Rattle.rx_forms.specs.Points
 use Rattle.rx_forms.specs.Placing.{ArePlaced, quotients_at}
 use Rattle.rx_forms.proofs.Extension.{quotients_length, solved_at, at_end, left_first, right_first, two}
 
@@ -39,9 +38,9 @@ solved_any (Some x) e p front rest n h l = solved_in x e p front rest n h l
 
 module _ (domains : List Domain) (m : Graph) (point : List ℤ) (total : ℕ) where
   pub carried : (before : List Placed) (scalar division : ℕ) (links : List Arrow) (fields : List Placed) → length links ≡ length fields
-      → (a r : List ℤ) → point ≡ a ++ (Carried.numbers_of domains m fields ++ r) → length a ≡ scalar
-      → (b s : List ℤ) → point ≡ b ++ (Carried.quotients_along domains m total before links fields ++ s) → length b ≡ division
-      → Carried.Carries domains m point total before scalar division links fields
+      → (a r : List ℤ) → point ≡ a ++ (Points.numbers_of domains m fields ++ r) → length a ≡ scalar
+      → (b s : List ℤ) → point ≡ b ++ (Points.quotients_along domains m total before links fields ++ s) → length b ≡ division
+      → Carries.Carries domains m point total before scalar division links fields
   carried before scalar division [] [] same a r pa la b s pb lb = tt
   carried before scalar division [] (p ∷ fields) same a r pa la b s pb lb = absurd (omega arith)
   carried before scalar division (link ∷ links) [] same a r pa la b s pb lb = absurd (omega arith)
@@ -51,8 +50,8 @@ module _ (domains : List Domain) (m : Graph) (point : List ℤ) (total : ℕ) wh
       let qc = quotients link.condition e in
       let qf = quotients_any link.first e in
       let qs = quotients_any (size_aspect type link.size) e in
-      let more = Carried.quotients_along domains m total (before ++ p ∷ []) links fields in
-      let numbers = Carried.numbers_of domains m fields in
+      let more = Points.quotients_along domains m total (before ++ p ∷ []) links fields in
+      let numbers = Points.numbers_of domains m fields in
       let l1 : length (b ++ qc) ≡ division + divisions_in link.condition = two b qc division (divisions_in link.condition) lb (quotients_length link.condition e) in
       let l2 : length ((b ++ qc) ++ qf) ≡ division + divisions_in link.condition + divisions_in_any link.first = two (b ++ qc) qf (division + divisions_in link.condition) (divisions_in_any link.first) l1 (any_length link.first e) in
       let l3 : length (((b ++ qc) ++ qf) ++ qs) ≡ division + divisions_in link.condition + divisions_in_any link.first + divisions_in_any (size_aspect type link.size) = two ((b ++ qc) ++ qf) qs (division + divisions_in link.condition + divisions_in_any link.first) (divisions_in_any (size_aspect type link.size)) l2 (any_length (size_aspect type link.size) e) in
@@ -92,12 +91,12 @@ module _ (domains : List Domain) (m : Graph) (total : ℕ) where
   placed_length before (link ∷ links) [] h = absurd h
   placed_length before (link ∷ links) (p ∷ fields) h = let r = placed_length (before ++ p ∷ []) links fields h.2 in omega arith
 
-  pub placed_numbers : (before : List Placed) (links : List Arrow) (fields : List Placed) → ArePlaced domains m total before links fields → length (Carried.numbers_of domains m fields) ≡ Steps.scalars_on domains m links
+  pub placed_numbers : (before : List Placed) (links : List Arrow) (fields : List Placed) → ArePlaced domains m total before links fields → length (Points.numbers_of domains m fields) ≡ Steps.scalars_on domains m links
   placed_numbers before [] [] h = refl
   placed_numbers before [] (p ∷ fields) h = absurd h
   placed_numbers before (link ∷ links) [] h = absurd h
   placed_numbers before (link ∷ links) (p ∷ fields) h =
-      two (number_if (type_of domains m p.field) p.number) (Carried.numbers_of domains m fields) (scalars_in (type_of domains m p.field)) (Steps.scalars_on domains m links) (if_count (type_of domains m p.field) p.number) (placed_numbers (before ++ p ∷ []) links fields h.2)
+      two (number_if (type_of domains m p.field) p.number) (Points.numbers_of domains m fields) (scalars_in (type_of domains m p.field)) (Steps.scalars_on domains m links) (if_count (type_of domains m p.field) p.number) (placed_numbers (before ++ p ∷ []) links fields h.2)
       ∙ ap (λ f. scalars_in (type_of domains m f) + Steps.scalars_on domains m links) (ap (λ (q : Placed). q.field) h.0)
 
   three : (xs ys zs ws : List ℤ) (a b c d k : ℕ) → length xs ≡ a → length ys ≡ b → length zs ≡ c → length ws + (d + a + b + c) ≡ k → length (xs ++ (ys ++ (zs ++ ws))) + d ≡ k
@@ -109,7 +108,7 @@ module _ (domains : List Domain) (m : Graph) (total : ℕ) where
 
   -- there is one quotient for each division
   pub placed_quotients : (before : List Placed) (links : List Arrow) (fields : List Placed) (d : ℕ) → ArePlaced domains m total before links fields
-      → length (Carried.quotients_along domains m total before links fields) + d ≡ Steps.division_after domains m d links
+      → length (Points.quotients_along domains m total before links fields) + d ≡ Steps.division_after domains m d links
   placed_quotients before [] [] d h = omega arith
   placed_quotients before [] (p ∷ fields) d h = absurd h
   placed_quotients before (link ∷ links) [] d h = absurd h
@@ -117,17 +116,17 @@ module _ (domains : List Domain) (m : Graph) (total : ℕ) where
       let e = in_message total before in
       let next : ℕ → ℕ = λ f. Steps.next_division domains m (record { before = []; scalar = 0; division = d; link = link; field = f }) in
       let aspect = size_aspect (type_of domains m p.field) link.size in
-      three (quotients link.condition e) (quotients_any link.first e) (quotients_any aspect e) (Carried.quotients_along domains m total (before ++ p ∷ []) links fields)
+      three (quotients link.condition e) (quotients_any link.first e) (quotients_any aspect e) (Points.quotients_along domains m total (before ++ p ∷ []) links fields)
       (divisions_in link.condition) (divisions_in_any link.first) (divisions_in_any aspect) d (Steps.division_after domains m (next p.field) links)
       (quotients_length link.condition e) (any_length link.first e) (any_length aspect e) (placed_quotients (before ++ p ∷ []) links fields (next p.field) h.2)
       ∙ ap (λ f. Steps.division_after domains m (next f) links) (ap (λ (q : Placed). q.field) h.0)
 
   -- the length, the numbers and the quotients of placed fields carry them, whatever stands behind
   pub placed_carries : (links : List Arrow) (fields : List Placed) (more : List ℤ) → ArePlaced domains m total [] links fields
-      → Carried.Carries domains m (pos total ∷ (Carried.numbers_of domains m fields ++ (Carried.quotients_along domains m total [] links fields ++ more))) total [] 1 (1 + Steps.scalars_on domains m links) links fields
+      → Carries.Carries domains m (pos total ∷ (Points.numbers_of domains m fields ++ (Points.quotients_along domains m total [] links fields ++ more))) total [] 1 (1 + Steps.scalars_on domains m links) links fields
   placed_carries links fields more h =
-      let numbers = Carried.numbers_of domains m fields in
-      let along = Carried.quotients_along domains m total [] links fields in
+      let numbers = Points.numbers_of domains m fields in
+      let along = Points.quotients_along domains m total [] links fields in
       carried domains m (pos total ∷ (numbers ++ (along ++ more))) total [] 1 (1 + Steps.scalars_on domains m links) links fields (placed_length [] links fields h)
       (pos total ∷ []) (along ++ more) refl refl
       (pos total ∷ numbers) more refl
@@ -137,20 +136,20 @@ module _ (domains : List Domain) (m : Graph) where
   pub links_length : (total : ℕ) (before : List Placed) (at : Node) (path : List ℕ) (fields : List Placed) (end : Node) → Leads domains m total before at path fields end → length (Steps.links_on domains m path) ≡ length fields
   links_length total before at path fields end h = placed_length domains m total before (Steps.links_on domains m path) fields (leads_placed domains m total before at path fields end h)
 
-  pub numbers_length : (total : ℕ) (before : List Placed) (at : Node) (path : List ℕ) (fields : List Placed) (end : Node) → Leads domains m total before at path fields end → length (Carried.numbers_of domains m fields) ≡ Steps.scalars_on domains m (Steps.links_on domains m path)
+  pub numbers_length : (total : ℕ) (before : List Placed) (at : Node) (path : List ℕ) (fields : List Placed) (end : Node) → Leads domains m total before at path fields end → length (Points.numbers_of domains m fields) ≡ Steps.scalars_on domains m (Steps.links_on domains m path)
   numbers_length total before at path fields end h = placed_numbers domains m total before (Steps.links_on domains m path) fields (leads_placed domains m total before at path fields end h)
 
   pub along_length : (total : ℕ) (before : List Placed) (at : Node) (path : List ℕ) (fields : List Placed) (end : Node) (d : ℕ) → Leads domains m total before at path fields end
-      → length (Carried.quotients_along domains m total before (Steps.links_on domains m path) fields) + d ≡ Steps.division_after domains m d (Steps.links_on domains m path)
+      → length (Points.quotients_along domains m total before (Steps.links_on domains m path) fields) + d ≡ Steps.division_after domains m d (Steps.links_on domains m path)
   along_length total before at path fields end d h = placed_quotients domains m total before (Steps.links_on domains m path) fields d (leads_placed domains m total before at path fields end h)
 
   -- the point of a partial path carries it
   pub point_carries : (total : ℕ) (at : Node) (path : List ℕ) (fields : List Placed) (end : Node) → Leads domains m total [] at path fields end
-      → Carried.Carries domains m (Carried.point_of domains m total (Steps.links_on domains m path) fields) total [] 1 (1 + Steps.scalars_on domains m (Steps.links_on domains m path)) (Steps.links_on domains m path) fields
+      → Carries.Carries domains m (Points.point_of domains m total (Steps.links_on domains m path) fields) total [] 1 (1 + Steps.scalars_on domains m (Steps.links_on domains m path)) (Steps.links_on domains m path) fields
   point_carries total at path fields end h =
       let links = Steps.links_on domains m path in
-      let numbers = Carried.numbers_of domains m fields in
-      subst (λ qs. Carried.Carries domains m (pos total ∷ (numbers ++ qs)) total [] 1 (1 + Steps.scalars_on domains m links) links fields) (append-nil (Carried.quotients_along domains m total [] links fields))
+      let numbers = Points.numbers_of domains m fields in
+      subst (λ qs. Carries.Carries domains m (pos total ∷ (numbers ++ qs)) total [] 1 (1 + Steps.scalars_on domains m links) links fields) (append-nil (Points.quotients_along domains m total [] links fields))
       (placed_carries domains m total links fields [] (leads_placed domains m total [] at path fields end h))
 
 -- ---- links at the end

@@ -8,8 +8,7 @@ use Rattle.rx_types.specs.Domain.{Domain}
 use Rattle.rx_graph.specs.Graph.{Arrow, Graph}
 use Rattle.rx_forms.specs.Normal.{Formed, divisions_in}
 use Rattle.rx_forms.specs.Limits.{is_within}
-use Rattle.rx_forms.specs.Steps.{links_on, scalars_on}
-use Rattle.rx_forms.specs.Gathered.{past, into_fields, passes_limit}
+use Rattle.rx_forms.specs.Steps.{links_on, scalars_on, past, into_fields, passes_limit}
 use Rattle.rx_forms.specs.Fronts
 use Rattle.rx_forms.specs.PathLimit.{ones_and_pairs, keeps_path}
 use Rattle.rx_forms.specs.Choices.{conditions_within, asked, begin_along, front_along, front_within}

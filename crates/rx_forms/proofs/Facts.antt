@@ -12,7 +12,7 @@ use Rattle.rx_forms.specs.declared.work.Work.{Work}
 use Rattle.rx_forms.specs.Linear.{minus}
 use Rattle.rx_forms.specs.Normal.{Formed, linear, condition, comparison, joined, divisions_in, truth_in, IsNumeric, IsCompared, IsCondition}
 use Rattle.rx_forms.specs.Limits.{all_kept, differences, is_within, sides_within}
-use Rattle.rx_forms.specs.Worked.{IsTruth, Goes, HasSum, HasComparison, HasFact, by_differences, spelled_in, agreed, takes_all}
+use Rattle.rx_forms.specs.Expressions.{IsTruth, Goes, HasSum, HasComparison, HasFact, by_differences, spelled_in, agreed, takes_all}
 use Rattle.rx_forms.proofs.Kept
 use Rattle.rx_forms.proofs.Spelled
 use Rattle.rx_forms.proofs.Working.{both_go, right_value}

@@ -6,8 +6,7 @@ use Rattle.rx_types.specs.Domain.{Domain}
 use Rattle.rx_graph.specs.Graph.{Arrow, Graph, type_of, limit_of}
 use Rattle.rx_forms.specs.Normal.{divisions_in}
 use Rattle.rx_forms.specs.Limits.{is_kept, met, all_kept}
-use Rattle.rx_forms.specs.Steps.{Step, first_form, size_form, condition_form, division_forms, next_division, steps_from, formed_after, division_after, target_field}
-use Rattle.rx_forms.specs.Gathered.{met_at, past, conditions_from, rows_from, met_from}
+use Rattle.rx_forms.specs.Steps.{Step, first_form, size_form, condition_form, division_forms, next_division, steps_from, formed_after, division_after, target_field, met_at, past, conditions_from, rows_from, met_from}
 use Rattle.rx_forms.specs.Fronts
 
 pub le_back : (a b : ℕ) → a ≤ b → nat_le b 190 ≡ true → nat_le a 190 ≡ true

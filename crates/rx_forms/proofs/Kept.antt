@@ -20,6 +20,10 @@ off_right false b h = refl
 pub on_both : (a b : Bool) → a ≡ true → b ≡ true → (a && b) ≡ true
 on_both a b p q = ap (λ (t : Bool). t && b) p ∙ q
 
+pub both_on : (a b : Bool) → (a && b) ≡ true → (a ≡ true) × (b ≡ true)
+both_on true b h = (refl, h)
+both_on false b h = absurd (cc)
+
 shared : (p q a b : Bool) → (p ≡ true → q ≡ true) → (p && (a && b)) ≡ ((q && a) && (p && b))
 shared true q a b h = ap (λ (t : Bool). (t && a) && b) (sym (h refl))
 shared false q a b h = sym (off_right (q && a) false refl)

@@ -3,6 +3,7 @@ pub mod Asked
 pub mod Asking
 pub mod Aspects
 pub mod Building
+pub mod Carries
 pub mod Carrying
 pub mod Chosen
 pub mod Conditions

@@ -9,7 +9,7 @@ use Rattle.rx_graph.specs.Graph.{Arrow, Graph, type_of}
 use Rattle.rx_forms.specs.Normal.{divisions_in}
 use Rattle.rx_forms.specs.Limits.{is_within, all_kept}
 use Rattle.rx_forms.specs.Steps.{leads_to_field, link_then, links_on, scalars_on, scalars_in, target_field, next_division}
-use Rattle.rx_forms.specs.Gathered
+use Rattle.rx_forms.specs.Steps
 use Rattle.rx_forms.specs.Fronts
 use Rattle.rx_forms.proofs.Kept.{off_left}
 use Rattle.rx_forms.proofs.Tests.{both}
@@ -24,7 +24,7 @@ select_append test (x ∷ xs) ys = by_test (test x) (select_append test xs ys)
     by_test true h = ap (λ (zs : List Arrow). x ∷ zs) h
     by_test false h = h
 
-pub fields_append : (xs ys : List Arrow) → Gathered.into_fields (xs ++ ys) ≡ Gathered.into_fields xs ++ Gathered.into_fields ys
+pub fields_append : (xs ys : List Arrow) → Steps.into_fields (xs ++ ys) ≡ Steps.into_fields xs ++ Steps.into_fields ys
 fields_append xs ys = select_append leads_to_field xs ys
 
 pub ends_append : (all : Bool) (xs ys : List Arrow) → Fronts.ends_of all (xs ++ ys) ≡ Fronts.ends_of all xs ++ Fronts.ends_of all ys
@@ -45,10 +45,10 @@ is_field l f e = ap field_test e
 pub is_no_field : (l : Arrow) → ((f : ℕ) → l.target ≡ At f → ⊥) → leads_to_field l ≡ false
 is_no_field l h = no_field l.target h
 
-pub fields_one : (l : Arrow) → leads_to_field l ≡ true → Gathered.into_fields (l ∷ []) ≡ l ∷ []
+pub fields_one : (l : Arrow) → leads_to_field l ≡ true → Steps.into_fields (l ∷ []) ≡ l ∷ []
 fields_one l e = ap (λ (b : Bool). if b then l ∷ [] else []) e
 
-pub fields_none : (l : Arrow) → leads_to_field l ≡ false → Gathered.into_fields (l ∷ []) ≡ []
+pub fields_none : (l : Arrow) → leads_to_field l ≡ false → Steps.into_fields (l ∷ []) ≡ []
 fields_none l e = ap (λ (b : Bool). if b then l ∷ [] else []) e
 
 pub ends_one : (all : Bool) (l : Arrow) → (all || not (leads_to_field l)) ≡ true → Fronts.ends_of all (l ∷ []) ≡ l ∷ []
@@ -88,19 +88,19 @@ module _ (domains : List Domain) (m : Graph) where
   scalars_append [] ys = omega arith
   scalars_append (x ∷ xs) ys = let e = scalars_append xs ys in omega (arith, e)
 
-  pub scalars_next : (path : List ℕ) (k : ℕ) → k < length path → scalars_on domains m (Gathered.into_fields (links_on domains m (drop k path))) ≡ scalars_on domains m (Gathered.into_fields (links_on domains m (get_or path k 0 ∷ []))) + scalars_on domains m (Gathered.into_fields (links_on domains m (drop (k + 1) path)))
+  pub scalars_next : (path : List ℕ) (k : ℕ) → k < length path → scalars_on domains m (Steps.into_fields (links_on domains m (drop k path))) ≡ scalars_on domains m (Steps.into_fields (links_on domains m (get_or path k 0 ∷ []))) + scalars_on domains m (Steps.into_fields (links_on domains m (drop (k + 1) path)))
   scalars_next path k h =
-      ap (λ (ls : List Arrow). scalars_on domains m (Gathered.into_fields ls)) (next_link domains m path k h)
+      ap (λ (ls : List Arrow). scalars_on domains m (Steps.into_fields ls)) (next_link domains m path k h)
       ∙ ap (λ (ls : List Arrow). scalars_on domains m ls) (fields_append (links_on domains m (get_or path k 0 ∷ [])) (links_on domains m (drop (k + 1) path)))
-      ∙ scalars_append (Gathered.into_fields (links_on domains m (get_or path k 0 ∷ []))) _
+      ∙ scalars_append (Steps.into_fields (links_on domains m (get_or path k 0 ∷ []))) _
 
-  pub scalars_one : (l : Arrow) (f : ℕ) → l.target ≡ At f → scalars_in (type_of domains m f) ≡ scalars_on domains m (Gathered.into_fields (l ∷ []))
+  pub scalars_one : (l : Arrow) (f : ℕ) → l.target ≡ At f → scalars_in (type_of domains m f) ≡ scalars_on domains m (Steps.into_fields (l ∷ []))
   scalars_one l f e =
       let p = ap (λ (ls : List Arrow). scalars_on domains m ls) (fields_one l (is_field l f e)) in
       let q = ap (λ (t : Node). scalars_in (type_of domains m (target_field t))) e in
       omega (arith, p, q)
 
-  pub scalars_none : (l : Arrow) → ((f : ℕ) → l.target ≡ At f → ⊥) → 0 ≡ scalars_on domains m (Gathered.into_fields (l ∷ []))
+  pub scalars_none : (l : Arrow) → ((f : ℕ) → l.target ≡ At f → ⊥) → 0 ≡ scalars_on domains m (Steps.into_fields (l ∷ []))
   scalars_none l h = sym (ap (λ (ls : List Arrow). scalars_on domains m ls) (fields_none l (is_no_field l h)))
 
   pub scalars_after : (front : Fronts.Front) (ls : List Arrow) → (Fronts.after_links domains m front ls).scalar ≡ front.scalar + scalars_on domains m ls
@@ -142,7 +142,7 @@ module _ (domains : List Domain) (m : Graph) where
   links_room front [] h e = h
   links_room front (l ∷ ls) h e =
       let step = Fronts.step_at front l in
-      let p = both {a = nat_le (next_division domains m step) 190 && all_kept (Gathered.met_at (type_of domains m step.field) step)} e in
+      let p = both {a = nat_le (next_division domains m step) 190 && all_kept (Steps.met_at (type_of domains m step.field) step)} e in
       let q = both {a = nat_le (next_division domains m step) 190} p.0 in
       links_room (Fronts.after_link domains m front l) ls (test_room (next_division domains m step) q.0) p.1
 

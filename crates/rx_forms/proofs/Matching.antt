@@ -11,7 +11,8 @@ use Rattle.rx_forms.specs.declared.linear.Linear.{Linear}
 use Rattle.rx_forms.specs.Linear.{at, plus, minus, not_below_zero}
 use Rattle.rx_forms.specs.Normal.{Formed, formed_of, bits}
 use Rattle.rx_forms.specs.Points.{HasPlace, Represents, SolvesAny, Matches}
-use Rattle.rx_forms.specs.Steps.{Step, IsNumericIfAny, IsNarrowIfAny, end_form, form_or, size_aspect, size_division, first_form, size_form, number_form, divisions_any, is_among}
+use Rattle.rx_forms.specs.Steps.{Step, end_form, form_or, size_aspect, size_division, first_form, size_form, number_form, divisions_any, is_among}
+use Rattle.rx_forms.specs.Links.{IsNumericIfAny, IsNarrowIfAny}
 use Rattle.rx_forms.proofs.Sums.{at_plus, at_minus, at_term, at_variable, at_constant}
 use Rattle.rx_forms.proofs.Values.{linear_value}
 use Rattle.rx_forms.proofs.Quotients.{solves_number, rows_of_number}

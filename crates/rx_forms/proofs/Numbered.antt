@@ -4,9 +4,8 @@ use Rattle.rx_types.specs.Domain.{Domain}
 use Rattle.rx_types.specs.Environment.{Placed, in_message}
 use Rattle.rx_graph.specs.Graph.{Arrow, Graph, type_of}
 use Rattle.rx_graph.specs.Paths.{HasNumber, placed_by}
-use Rattle.rx_forms.specs.Steps.{target_field, links_on}
-use Rattle.rx_forms.specs.Gathered.{into_fields}
-use Rattle.rx_forms.specs.Carried.{numbers_of, number_if}
+use Rattle.rx_forms.specs.Steps.{target_field, links_on, into_fields}
+use Rattle.rx_forms.specs.Points.{numbers_of, number_if}
 use Rattle.rx_forms.specs.Placing.{NumberThen, AreNumbersFor, ArePlaced}
 use Rattle.rx_forms.specs.Laws.{NumbersPlaceFields}
 

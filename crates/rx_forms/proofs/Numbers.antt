@@ -15,7 +15,7 @@ use Rattle.rx_forms.specs.Linear.{term, minus, times}
 use Rattle.rx_forms.specs.Normal.{Formed, linear, divisions_in, IsNumeric}
 use Rattle.rx_forms.specs.Divisions.{division_rows, divisions}
 use Rattle.rx_forms.specs.Limits.{has_words, divided, all_kept, is_within}
-use Rattle.rx_forms.specs.Worked.{Goes, HasSum, sum_by, divided_by, IsLeaf}
+use Rattle.rx_forms.specs.Expressions.{Goes, HasSum, sum_by, divided_by, IsLeaf}
 use Rattle.rx_forms.proofs.Kept
 use Rattle.rx_forms.proofs.Tests.{both}
 use Rattle.rx_forms.proofs.Working.{add_works, sub_works, neg_works, right_value}

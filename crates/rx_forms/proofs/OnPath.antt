@@ -17,10 +17,10 @@ use Rattle.rx_forms.specs.Linear.{meets, not_below_zero}
 use Rattle.rx_forms.specs.Normal.{Formed}
 use Rattle.rx_forms.specs.Points.{Represents}
 use Rattle.rx_forms.specs.Steps
-use Rattle.rx_forms.specs.Steps.{Step, AreFormable, AreNarrow, target_field, leads_to_field, condition_form, division_forms}
-use Rattle.rx_forms.specs.Gathered
-use Rattle.rx_forms.specs.Gathered.{into_fields, others, past, conditions_from, rows_from}
-use Rattle.rx_forms.specs.Carried
+use Rattle.rx_forms.specs.Steps.{Step, target_field, leads_to_field, condition_form, division_forms, into_fields, others, past, conditions_from, rows_from}
+use Rattle.rx_forms.specs.Links.{AreFormable, AreNarrow}
+use Rattle.rx_forms.proofs.Carries
+use Rattle.rx_forms.specs.Points
 use Rattle.rx_forms.specs.Placing
 use Rattle.rx_forms.specs.Placing.{quotients_at, rows_each}
 use Rattle.rx_forms.specs.Laws.{FormsHaveValues, DivisionRowsHold, RowsLeaveOnePoint}
@@ -48,25 +48,25 @@ module _ (domains : List Domain) (m : Graph) (el : IsElaborated domains m) (form
   links = into_fields (Steps.links_on domains m path)
 
   abbrev ends : List Arrow
-  ends = Gathered.ends_along domains m path out
+  ends = Steps.ends_along domains m path out
 
   abbrev numbers : List ℤ
-  numbers = Carried.numbers_of domains m fields
+  numbers = Points.numbers_of domains m fields
 
   abbrev count : ℕ
   count = Steps.scalars_on domains m links
 
   abbrev along : List ℤ
-  along = Carried.quotients_along domains m total [] links fields
+  along = Points.quotients_along domains m total [] links fields
 
   abbrev at_end : List ℤ
   at_end = quotients_at (in_message total fields) ends
 
   abbrev next : ℕ
-  next = Gathered.next_along domains m path
+  next = Steps.next_along domains m path
 
   abbrev before_ends : List Formed
-  before_ends = Gathered.fields_along domains m path
+  before_ends = Steps.fields_along domains m path
 
   abbrev point : List ℤ
   point = Placing.point_on domains m total path out fields
@@ -92,7 +92,7 @@ module _ (domains : List Domain) (m : Graph) (el : IsElaborated domains m) (form
       turned : (x c y n : ℕ) → x ≡ 1 + c + y → y + (1 + c) ≡ n → x ≡ n
       turned x c y n p q = omega (arith, p, q)
 
-  point_length : Gathered.variables_along domains m path out ≡ length point
+  point_length : Steps.variables_along domains m path out ≡ length point
   point_length =
       let a = two (front ++ along) at_end next (length at_end) before_length refl in
       let b = each_length ends (in_message total fields) next in
@@ -101,7 +101,7 @@ module _ (domains : List Domain) (m : Graph) (el : IsElaborated domains m) (form
       turned : (x z y n k : ℕ) → z ≡ x → z ≡ n + y → y + n ≡ k → k ≡ x
       turned x z y n k p q r = omega (arith, p, q, r)
 
-  carries : Carried.Carries domains m point total [] 1 (1 + count) links fields
+  carries : Carries.Carries domains m point total [] 1 (1 + count) links fields
   carries = placed_carries domains m total links fields at_end placed
 
   worth : AreWorth domains m formable point total refl [] [] 1 (1 + count) links fields
@@ -113,13 +113,13 @@ module _ (domains : List Domain) (m : Graph) (el : IsElaborated domains m) (form
   ends_solved : SolvesEach point next ends (in_message total fields)
   ends_solved = each_solved ends (in_message total fields) point (front ++ along) [] next (ap (λ (zs : List ℤ). front ++ (along ++ zs)) (sym (append-nil at_end)) ∙ sym (append_assoc front along (at_end ++ []))) before_length
 
-  pub has_values : Placing.HaveValues domains m total path out fields point (Gathered.forms_along domains m path out)
+  pub has_values : Placing.HaveValues domains m total path out fields point (Steps.forms_along domains m path out)
   has_values = record {
     variables = point_length;
     firsts = worth.firsts;
     sizes = worth.sizes;
     conditions =
-        map-append (λ form. meets form point) (map condition_form (Gathered.steps_along domains m path)) (conditions_from before_ends next ends)
+        map-append (λ form. meets form point) (map condition_form (Steps.steps_along domains m path)) (conditions_from before_ends next ends)
         ∙ ap (λ ts. ts ++ map (λ form. meets form point) (conditions_from before_ends next ends)) worth.conditions
         ∙ ap (λ ts. Placing.truths_along domains m total [] links fields ++ ts) (ends_meet domains m formable point before_ends (in_message total fields) represented (numbers_within domains m total fields worth.types) next ends ends_are ends_solved);
   }
@@ -130,13 +130,13 @@ module _ (domains : List Domain) (m : Graph) (el : IsElaborated domains m) (form
   link_forms step = division_forms (limit_of domains m) (type_of domains m step.field) step
 
   abbrev rows_along : List (List Linear)
-  rows_along = map link_forms (Gathered.steps_along domains m path)
+  rows_along = map link_forms (Steps.steps_along domains m path)
 
   abbrev rows_at_ends : List (List Linear)
   rows_at_ends = rows_each (limit_of domains m) before_ends next ends
 
   all_fields : (i : ℕ) → length rows_along ≤ i → length fields ≤ i
-  all_fields i h = counted (length rows_along) (length fields) i (mapped_length link_forms (Gathered.steps_along domains m path) ∙ steps_length domains m [] 1 (1 + count) links ∙ placed_length domains m total [] links fields placed) h
+  all_fields i h = counted (length rows_along) (length fields) i (mapped_length link_forms (Steps.steps_along domains m path) ∙ steps_length domains m [] 1 (1 + count) links ∙ placed_length domains m total [] links fields placed) h
     where
       counted : (x y i : ℕ) → x ≡ y → x ≤ i → y ≤ i
       counted x y i p q = omega (arith, p, q)
@@ -157,16 +157,16 @@ module _ (domains : List Domain) (m : Graph) (el : IsElaborated domains m) (form
       let h = subst (λ n. v < n) (sym front_length) k in
       get_or_append_left front rest (pos 0) v h ∙ sym (get_or_append_left front (along ++ at_end) (pos 0) v h)
 
-  same : (rest : List ℤ) → Carried.Carries domains m (front ++ rest) total [] 1 (1 + count) links fields → SolvesEach (front ++ rest) next ends (in_message total fields) → (v : ℕ) → v < past next ends → Same (front ++ rest) point v
+  same : (rest : List ℤ) → Carries.Carries domains m (front ++ rest) total [] 1 (1 + count) links fields → SolvesEach (front ++ rest) next ends (in_message total fields) → (v : ℕ) → v < past next ends → Same (front ++ rest) point v
   same rest c s v high =
       by_place (front ++ rest) point (1 + count) v (λ k. in_front rest v k) (λ l.
       by_place (front ++ rest) point next v (λ k. carried_same (front ++ rest) point domains m total links fields [] 1 (1 + count) v placed c carries l k)
       (λ k. each_same (front ++ rest) point ends (in_message total fields) next v s ends_solved k high))
 
-  pub one_point : (rest : List ℤ) → length (front ++ rest) ≡ Gathered.variables_along domains m path out → not_below_zero (front ++ rest) (Gathered.forms_along domains m path out).divisions ≡ true → rest ≡ Placing.quotients_on domains m total path out fields
+  pub one_point : (rest : List ℤ) → length (front ++ rest) ≡ Steps.variables_along domains m path out → not_below_zero (front ++ rest) (Steps.forms_along domains m path out).divisions ≡ true → rest ≡ Placing.quotients_on domains m total path out fields
   one_point rest long rows =
       let other = front ++ rest in
-      let parts = parts_of other (flat_map link_forms (Gathered.steps_along domains m path)) (rows_from (limit_of domains m) before_ends next ends) rows in
+      let parts = parts_of other (flat_map link_forms (Steps.steps_along domains m path)) (rows_from (limit_of domains m) before_ends next ends) rows in
       let c = rows_carry domains m formable other total refl [] [] 1 (1 + count) links fields links_are tt tt placed (pos total ∷ []) rest refl refl parts.0 in
       let w = are_worth domains m formable other total refl [] [] 1 (1 + count) links fields links_are tt tt placed c in
       let r = represents other total before_ends fields refl w.matches in
@@ -174,13 +174,13 @@ module _ (domains : List Domain) (m : Graph) (el : IsElaborated domains m) (form
       append_cancel_left front rest (along ++ at_end) (ext_get_or (pos 0) other point (long ∙ point_length) (λ v h. same rest c s v (subst (λ n. v < n) long h)))
 
 -- the rows of the divisions are those of the links
-rows_are : (domains : List Domain) (m : Graph) (path out : List ℕ) → (Gathered.forms_along domains m path out).divisions ≡ flat_map (λ rows. rows) (Placing.rows_by_link domains m path out)
+rows_are : (domains : List Domain) (m : Graph) (path out : List ℕ) → (Steps.forms_along domains m path out).divisions ≡ flat_map (λ rows. rows) (Placing.rows_by_link domains m path out)
 rows_are domains m path out =
     let f : Step → List Linear = λ step. division_forms (limit_of domains m) (type_of domains m step.field) step in
-    let steps = Gathered.steps_along domains m path in
-    let fields = Gathered.fields_along domains m path in
-    let n = Gathered.next_along domains m path in
-    let ends = Gathered.ends_along domains m path out in
+    let steps = Steps.steps_along domains m path in
+    let fields = Steps.fields_along domains m path in
+    let n = Steps.next_along domains m path in
+    let ends = Steps.ends_along domains m path out in
     ap (λ (rows : List Linear). rows ++ rows_from (limit_of domains m) fields n ends) (mapped_joined f steps)
     ∙ ap (λ (rows : List Linear). flat_map (λ rows. rows) (map f steps) ++ rows) (rows_joined (limit_of domains m) fields n ends)
     ∙ sym (flat_map-append (λ rows. rows) (map f steps) (rows_each (limit_of domains m) fields n ends))

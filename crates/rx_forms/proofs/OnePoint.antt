@@ -14,12 +14,12 @@ use Rattle.rx_graph.specs.Cycles.{IsLink}
 use Rattle.rx_forms.specs.Linear.{not_below_zero}
 use Rattle.rx_forms.specs.Normal.{Formed, divisions_in}
 use Rattle.rx_forms.specs.Divisions.{divisions}
-use Rattle.rx_forms.specs.Points.{Represents, Solves, SolvesAny, Chosen, Matches}
+use Rattle.rx_forms.specs.Points.{Represents, Solves, SolvesAny, Chosen, Matches, number_if}
 use Rattle.rx_forms.specs.Steps
-use Rattle.rx_forms.specs.Steps.{Step, AreFormable, target_field, size_aspect, first_division, size_division, divisions_in_any, divisions_any, formed_by, scalars_in, division_forms}
-use Rattle.rx_forms.specs.Gathered.{past, rows_from}
-use Rattle.rx_forms.specs.Carried
-use Rattle.rx_forms.specs.Carried.{CarriesLink, Carries, number_if}
+use Rattle.rx_forms.specs.Steps.{Step, target_field, size_aspect, first_division, size_division, divisions_in_any, divisions_any, formed_by, scalars_in, division_forms, past, rows_from}
+use Rattle.rx_forms.specs.Links.{AreFormable}
+use Rattle.rx_forms.specs.Points
+use Rattle.rx_forms.proofs.Carries.{CarriesLink, Carries}
 use Rattle.rx_forms.specs.Placing.{ArePlaced}
 use Rattle.rx_forms.proofs.Extension.{two, right_first}
 use Rattle.rx_forms.proofs.Quotients.{parts_of}
@@ -129,7 +129,7 @@ module _ (domains : List Domain) (m : Graph) (formable : AreFormable (limit_of d
       })
 
   pub rows_carry : (before : List Formed) (befores : List Placed) (scalar division : ℕ) (links : List Arrow) (fields : List Placed) → AreLinks domains m links → Matches point before befores → AreOfTypes domains m befores → ArePlaced domains m total befores links fields
-      → (a r : List ℤ) → point ≡ a ++ (Carried.numbers_of domains m fields ++ r) → length a ≡ scalar
+      → (a r : List ℤ) → point ≡ a ++ (Points.numbers_of domains m fields ++ r) → length a ≡ scalar
       → not_below_zero point (flat_map (λ step. division_forms (limit_of domains m) (type_of domains m step.field) step) (Steps.steps_from domains m before scalar division links)) ≡ true
       → Carries domains m point total befores scalar division links fields
   rows_carry before befores scalar division [] [] is match types placed a r pa la rows = tt
@@ -140,7 +140,7 @@ module _ (domains : List Domain) (m : Graph) (formable : AreFormable (limit_of d
       let type = type_of domains m f in
       let step : Step = record { before = before; scalar = scalar; division = division; link = link; field = f } in
       let is_f : p.field ≡ f = ap (λ (q : Placed). q.field) placed.0 in
-      let numbers = Carried.numbers_of domains m fields in
+      let numbers = Points.numbers_of domains m fields in
       let own = number_if (type_of domains m p.field) p.number in
       let parts = parts_of point (division_forms (limit_of domains m) type step) _ rows in
       let c = link_carried before befores scalar division link p is.0 match is_f (λ t h. number_at (type_of domains m p.field) t point a numbers r p.number scalar h pa la) parts.0 in

@@ -13,9 +13,9 @@ use Rattle.rx_forms.specs.Normal.{Formed, divisions_in}
 use Rattle.rx_forms.specs.Divisions.{divisions}
 use Rattle.rx_forms.specs.Points.{Represents, Matches}
 use Rattle.rx_forms.specs.Steps
-use Rattle.rx_forms.specs.Steps.{Step, AreFormable, AreNarrow, target_field, size_aspect, first_division, size_division, divisions_any, formed_by, scalars_in, division_forms}
-use Rattle.rx_forms.specs.Gathered.{rows_from}
-use Rattle.rx_forms.specs.Carried.{CarriesLink, Carries}
+use Rattle.rx_forms.specs.Steps.{Step, target_field, size_aspect, first_division, size_division, divisions_any, formed_by, scalars_in, division_forms, rows_from}
+use Rattle.rx_forms.specs.Links.{AreFormable, AreNarrow}
+use Rattle.rx_forms.proofs.Carries.{CarriesLink, Carries}
 use Rattle.rx_forms.specs.Placing.{ArePlaced, rows_each}
 use Rattle.rx_forms.proofs.Quotients.{of_parts}
 use Rattle.rx_forms.proofs.Rows.{rows_of_condition}

@@ -14,9 +14,9 @@ use Rattle.rx_forms.specs.Linear.{at, meets}
 use Rattle.rx_forms.specs.Normal.{Formed, divisions_in}
 use Rattle.rx_forms.specs.Points.{HasPlace, Represents, Matches}
 use Rattle.rx_forms.specs.Steps
-use Rattle.rx_forms.specs.Steps.{Step, AreFormable, target_field, link_then, end_form, first_division, size_division, size_aspect, first_form, size_form, formed_by, scalars_in, condition_form}
-use Rattle.rx_forms.specs.Gathered.{conditions_from}
-use Rattle.rx_forms.specs.Carried.{CarriesLink, Carries}
+use Rattle.rx_forms.specs.Steps.{Step, target_field, link_then, end_form, first_division, size_division, size_aspect, first_form, size_form, formed_by, scalars_in, condition_form, conditions_from}
+use Rattle.rx_forms.specs.Links.{AreFormable}
+use Rattle.rx_forms.proofs.Carries.{CarriesLink, Carries}
 use Rattle.rx_forms.specs.Laws.{NumbersWithin}
 use Rattle.rx_forms.specs.Placing.{ArePlaced, truths_along, truths_at}
 use Rattle.rx_forms.proofs.Conditions.{condition_meets}

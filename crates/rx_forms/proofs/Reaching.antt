@@ -9,7 +9,7 @@ use Rattle.rx_forms.specs.declared.linear.Form.{AtLeast}
 use Rattle.rx_forms.specs.Linear.{constant, minus, less_one, equal}
 use Rattle.rx_forms.specs.Normal.{joined}
 use Rattle.rx_forms.specs.Code.{number_by}
-use Rattle.rx_forms.specs.Worked.{multiple}
+use Rattle.rx_forms.specs.Expressions.{multiple}
 
 -- ---- one less
 

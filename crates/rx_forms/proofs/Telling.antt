@@ -10,7 +10,7 @@ use Rattle.rx_forms.specs.declared.linear.Form.{Form}
 use Rattle.rx_forms.specs.Normal.{Formed}
 use Rattle.rx_forms.specs.Limits.{Met, is_kept, all_kept}
 use Rattle.rx_forms.specs.Steps.{scalars_on, links_on, condition_form, division_forms}
-use Rattle.rx_forms.specs.Gathered
+use Rattle.rx_forms.specs.Steps
 use Rattle.rx_forms.specs.Fronts
 use Rattle.rx_forms.proofs.Gathering
 use Rattle.rx_forms.proofs.Looping
@@ -32,10 +32,10 @@ fails_before false b c h = refl
 
 module _ (domains : List Domain) (m : Graph) (path out : List ℕ) where
   abbrev fields : List Arrow
-  fields = Gathered.into_fields (links_on domains m path)
+  fields = Steps.into_fields (links_on domains m path)
 
   abbrev ends : List Arrow
-  ends = Gathered.ends_along domains m path out
+  ends = Steps.ends_along domains m path out
 
   abbrev count : ℕ
   count = scalars_on domains m fields
@@ -48,68 +48,68 @@ module _ (domains : List Domain) (m : Graph) (path out : List ℕ) where
 
   -- the ends one after the other are the ends together
   both_ends : Fronts.after_path domains m begin path out ≡ Fronts.after_ends domains m mid ends
-  both_ends = sym (Looping.ends_after domains m mid (Gathered.others (links_on domains m path)) (links_on domains m out))
+  both_ends = sym (Looping.ends_after domains m mid (Steps.others (links_on domains m path)) (links_on domains m out))
 
-  mid_division : mid.division ≡ Gathered.next_along domains m path
+  mid_division : mid.division ≡ Steps.next_along domains m path
   mid_division = Gathering.division_is domains m begin fields
 
-  mid_fields : mid.fields ≡ Gathered.fields_along domains m path
+  mid_fields : mid.fields ≡ Steps.fields_along domains m path
   mid_fields = Gathering.fields_after domains m begin fields
 
-  pub tells_forms : Fronts.forms_in (Fronts.after_path domains m begin path out) ≡ Gathered.forms_along domains m path out
+  pub tells_forms : Fronts.forms_in (Fronts.after_path domains m begin path out) ≡ Steps.forms_along domains m path out
   tells_forms =
       ap Fronts.forms_in both_ends
       ∙ same_forms _ _
-      (Gathering.ends_division domains m mid ends ∙ ap (λ (n : ℕ). Gathered.past n ends) mid_division)
+      (Gathering.ends_division domains m mid ends ∙ ap (λ (n : ℕ). Steps.past n ends) mid_division)
       (Gathering.ends_rows domains m mid ends
-      ∙ ap (λ (rs : List Linear). rs ++ Gathered.rows_from (limit_of domains m) mid.fields mid.division ends) (Gathering.rows_after domains m begin fields)
-      ∙ ap (λ (fs : List Formed). flat_map (λ step. division_forms (limit_of domains m) (type_of domains m step.field) step) (Gathered.steps_along domains m path) ++ Gathered.rows_from (limit_of domains m) fs mid.division ends) mid_fields
-      ∙ ap (λ (n : ℕ). flat_map (λ step. division_forms (limit_of domains m) (type_of domains m step.field) step) (Gathered.steps_along domains m path) ++ Gathered.rows_from (limit_of domains m) (Gathered.fields_along domains m path) n ends) mid_division)
+      ∙ ap (λ (rs : List Linear). rs ++ Steps.rows_from (limit_of domains m) mid.fields mid.division ends) (Gathering.rows_after domains m begin fields)
+      ∙ ap (λ (fs : List Formed). flat_map (λ step. division_forms (limit_of domains m) (type_of domains m step.field) step) (Steps.steps_along domains m path) ++ Steps.rows_from (limit_of domains m) fs mid.division ends) mid_fields
+      ∙ ap (λ (n : ℕ). flat_map (λ step. division_forms (limit_of domains m) (type_of domains m step.field) step) (Steps.steps_along domains m path) ++ Steps.rows_from (limit_of domains m) (Steps.fields_along domains m path) n ends) mid_division)
       (Gathering.ends_firsts domains m mid ends ∙ Gathering.firsts_after domains m begin fields)
       (Gathering.ends_sizes domains m mid ends ∙ Gathering.sizes_after domains m begin fields)
       (Gathering.ends_conditions domains m mid ends
-      ∙ ap (λ (cs : List Form). cs ++ Gathered.conditions_from mid.fields mid.division ends) (Gathering.conditions_after domains m begin fields)
-      ∙ ap (λ (fs : List Formed). map condition_form (Gathered.steps_along domains m path) ++ Gathered.conditions_from fs mid.division ends) mid_fields
-      ∙ ap (λ (n : ℕ). map condition_form (Gathered.steps_along domains m path) ++ Gathered.conditions_from (Gathered.fields_along domains m path) n ends) mid_division)
+      ∙ ap (λ (cs : List Form). cs ++ Steps.conditions_from mid.fields mid.division ends) (Gathering.conditions_after domains m begin fields)
+      ∙ ap (λ (fs : List Formed). map condition_form (Steps.steps_along domains m path) ++ Steps.conditions_from fs mid.division ends) mid_fields
+      ∙ ap (λ (n : ℕ). map condition_form (Steps.steps_along domains m path) ++ Steps.conditions_from (Steps.fields_along domains m path) n ends) mid_division)
 
   -- ---- the path limit
 
   abbrev met_fields : List Met
-  met_fields = flat_map (λ step. Gathered.met_at (type_of domains m step.field) step) (Gathered.steps_along domains m path)
+  met_fields = flat_map (λ step. Steps.met_at (type_of domains m step.field) step) (Steps.steps_along domains m path)
 
   abbrev met_ends : List Met
-  met_ends = Gathered.met_from (Gathered.fields_along domains m path) (Gathered.next_along domains m path) ends
+  met_ends = Steps.met_from (Steps.fields_along domains m path) (Steps.next_along domains m path) ends
 
   ends_by_parts : Fronts.path_within domains m begin path out ≡ (Fronts.links_within domains m begin fields && Fronts.ends_within domains m mid ends)
-  ends_by_parts = ap (λ (t : Bool). Fronts.links_within domains m begin fields && t) (sym (Looping.ends_test domains m mid (Gathered.others (links_on domains m path)) (links_on domains m out)))
+  ends_by_parts = ap (λ (t : Bool). Fronts.links_within domains m begin fields && t) (sym (Looping.ends_test domains m mid (Steps.others (links_on domains m path)) (links_on domains m out)))
 
-  ends_tested : nat_le (Gathered.next_along domains m path) 190 ≡ true → Fronts.ends_within domains m mid ends ≡ (nat_le (Gathered.variables_along domains m path out) 190 && all_kept met_ends)
+  ends_tested : nat_le (Steps.next_along domains m path) 190 ≡ true → Fronts.ends_within domains m mid ends ≡ (nat_le (Steps.variables_along domains m path out) 190 && all_kept met_ends)
   ends_tested h =
       Gathering.within_ends domains m mid ends (ap (λ (n : ℕ). nat_le n 190) mid_division ∙ h)
-      ∙ ap (λ (n : ℕ). nat_le (Gathered.past n ends) 190 && all_kept (Gathered.met_from mid.fields n ends)) mid_division
-      ∙ ap (λ (fs : List Formed). nat_le (Gathered.variables_along domains m path out) 190 && all_kept (Gathered.met_from fs (Gathered.next_along domains m path) ends)) mid_fields
+      ∙ ap (λ (n : ℕ). nat_le (Steps.past n ends) 190 && all_kept (Steps.met_from mid.fields n ends)) mid_division
+      ∙ ap (λ (fs : List Formed). nat_le (Steps.variables_along domains m path out) 190 && all_kept (Steps.met_from fs (Steps.next_along domains m path) ends)) mid_fields
 
-  pub tells_limit : nat_le (1 + count) 190 ≡ true → Gathered.passes_limit domains m path out ≡ not (Fronts.path_within domains m begin path out)
+  pub tells_limit : nat_le (1 + count) 190 ≡ true → Steps.passes_limit domains m path out ≡ not (Fronts.path_within domains m begin path out)
   tells_limit h =
       ap not (sym (
       ends_by_parts
       ∙ ap (λ (t : Bool). t && Fronts.ends_within domains m mid ends) (Gathering.within_links domains m begin fields h)
-      ∙ Gathering.joins (nat_le (Gathered.next_along domains m path) 190) (nat_le (Gathered.variables_along domains m path out) 190) (all_kept met_fields) (all_kept met_ends) (Fronts.ends_within domains m mid ends)
-      (Gathering.le_back (Gathered.next_along domains m path) (Gathered.variables_along domains m path out) (Gathering.past_above domains m (Gathered.next_along domains m path) ends)) ends_tested
-      ∙ ap (λ (t : Bool). nat_le (Gathered.variables_along domains m path out) 190 && t) (sym (list_all-append is_kept met_fields met_ends))))
+      ∙ Gathering.joins (nat_le (Steps.next_along domains m path) 190) (nat_le (Steps.variables_along domains m path out) 190) (all_kept met_fields) (all_kept met_ends) (Fronts.ends_within domains m mid ends)
+      (Gathering.le_back (Steps.next_along domains m path) (Steps.variables_along domains m path out) (Gathering.past_above domains m (Steps.next_along domains m path) ends)) ends_tested
+      ∙ ap (λ (t : Bool). nat_le (Steps.variables_along domains m path out) 190 && t) (sym (list_all-append is_kept met_fields met_ends))))
 
   too_many : (n : ℕ) (t : Bool) → 190 ≤ count → 1 + count ≤ n → not (nat_le n 190 && t) ≡ true
   too_many n t h k = let e : nat_le n 190 ≡ false = grind (arith, h, k) in ap (λ (b : Bool). not (b && t)) e
 
-  pub tells_many : 190 ≤ count → Gathered.passes_limit domains m path out ≡ true
+  pub tells_many : 190 ≤ count → Steps.passes_limit domains m path out ≡ true
   tells_many h =
       let a = Gathering.division_above domains m (1 + count) fields in
-      let b = Gathering.past_above domains m (Gathered.next_along domains m path) ends in
-      too_many (Gathered.variables_along domains m path out) _ h (omega (arith, a, b))
+      let b = Gathering.past_above domains m (Steps.next_along domains m path) ends in
+      too_many (Steps.variables_along domains m path out) _ h (omega (arith, a, b))
 
   few_test : (n t : ℕ) → n ≡ t → n < 190 → nat_le (1 + t) 190 ≡ true
   few_test n t e h = grind (arith, e, h)
 
   -- the limit is told by what was tested along the path
-  pub told_limit : (n : ℕ) → n ≡ count → n < 190 → (t : Bool) → Fronts.path_within domains m begin path out ≡ t → Gathered.passes_limit domains m path out ≡ not t
+  pub told_limit : (n : ℕ) → n ≡ count → n < 190 → (t : Bool) → Fronts.path_within domains m begin path out ≡ t → Steps.passes_limit domains m path out ≡ not t
   told_limit n e h t w = tells_limit (few_test n count e h) ∙ ap not w

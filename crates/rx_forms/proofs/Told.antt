@@ -12,7 +12,7 @@ use Rattle.rx_graph.specs.Cycles.{IsLink, IsPath}
 use Rattle.rx_graph.specs.Elaborated.{IsElaborated}
 use Rattle.rx_graph.specs.Onward.{onward}
 use Rattle.rx_graph.proofs.Listed.{listed}
-use Rattle.rx_forms.specs.Gathered.{passes_limit}
+use Rattle.rx_forms.specs.Steps.{passes_limit}
 use Rattle.rx_forms.specs.PathLimit.{LeadsFrom, IsOut, KeepsLimit, numbers_from, ones_and_pairs, outs, keeps_limit_at, every_node, keeps_limit}
 use Rattle.rx_forms.proofs.Tests.{and_true}
 

@@ -14,7 +14,7 @@ use Rattle.rx_graph.specs.declared.message.Field as field
 use Rattle.rx_graph.specs.Graph.{Graph, limit_of, kind_of, kind_in, kind_of_field, scalar_of, greatest_if_any}
 use Rattle.rx_graph.specs.Elaborated.{IsElaborated, IsAspect}
 use Rattle.rx_forms.specs.Normal.{truth_in, IsNumeric, IsCondition, IsCompared}
-use Rattle.rx_forms.specs.Steps.{IsNumericIfAny, IsNarrowIfAny, AreFormable, AreNarrow}
+use Rattle.rx_forms.specs.Links.{IsNumericIfAny, IsNarrowIfAny, AreFormable, AreNarrow}
 
 number_no_truth : kind.Number ≢ kind.Truth
 number_no_truth e = cc

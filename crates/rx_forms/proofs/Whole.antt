@@ -4,8 +4,9 @@ use Rattle.rx_types.specs.Domain.{Domain}
 use Rattle.rx_graph.specs.declared.message.Node.TheVariants.{Start}
 use Rattle.rx_graph.specs.Graph.{Graph, limit_of}
 use Rattle.rx_graph.specs.Elaborated.{IsElaborated}
-use Rattle.rx_forms.specs.Steps.{AreFormable, AreNarrow, links_on, scalars_on}
-use Rattle.rx_forms.specs.Carried.{point_of}
+use Rattle.rx_forms.specs.Steps.{links_on, scalars_on}
+use Rattle.rx_forms.specs.Links.{AreFormable, AreNarrow}
+use Rattle.rx_forms.specs.Points.{point_of}
 use Rattle.rx_forms.specs.Laws.{RowsMakePartial, PartialMakesRows}
 use Rattle.rx_forms.proofs.Along.{rows_lead, lead_rows}
 use Rattle.rx_forms.proofs.Carrying.{point_carries}

@@ -8,7 +8,7 @@ use Rattle.rx_forms.specs.Linear.{plus, minus, times}
 use Rattle.rx_forms.specs.Normal.{Formed, linear, divisions_in}
 use Rattle.rx_forms.specs.Divisions.{divisions}
 use Rattle.rx_forms.specs.Limits.{has_words, is_within}
-use Rattle.rx_forms.specs.Worked.{Goes, HasSum}
+use Rattle.rx_forms.specs.Expressions.{Goes, HasSum}
 use Rattle.rx_forms.proofs.Kept
 
 module _ (limit : ℕ → ℕ) (fields : List Formed) where

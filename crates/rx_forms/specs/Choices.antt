@@ -2,14 +2,13 @@
 --   conditions_within           whether they stay within the path limit, each with the variables behind those of the one before
 --   asked                       the number of the next variable behind them, if they do
 --   front_along, front_within   what stands behind a path, and whether the path alone stays within the limit
-use Rattle.std.specs.Prelude.{List, [], ◌∷◌, ℕ, ◌+◌, Bool, true, false, ◌&&◌, if◌then◌else◌, Option, Some, None}
+use Rattle.std.specs.Prelude.{List, [], ◌∷◌, ℕ, ◌+◌, Bool, true, ◌&&◌, if◌then◌else◌, Option, Some, None}
 use Rattle.rx_types.specs.Domain.{Domain}
 use Rattle.rx_graph.specs.Graph.{Arrow, Graph}
 use Rattle.rx_forms.specs.Normal.{Formed, divisions_in}
 use Rattle.rx_forms.specs.Limits.{is_within}
-use Rattle.rx_forms.specs.Steps.{links_on, scalars_on}
-use Rattle.rx_forms.specs.Gathered.{past, into_fields}
-use Rattle.rx_forms.specs.Fronts.{Front, first_front, after_links, links_within, after_ends, ends_within, ends_of}
+use Rattle.rx_forms.specs.Steps.{links_on, scalars_on, past, into_fields}
+use Rattle.rx_forms.specs.Fronts.{Front, first_front, after_route, route_within}
 
 abbrev pub conditions_within : List Formed → ℕ → List Arrow → Bool
 conditions_within fields n [] = true
@@ -23,9 +22,7 @@ module _ (domains : List Domain) (m : Graph) where
   begin_along path = first_front (scalars_on domains m (into_fields (links_on domains m path)))
 
   abbrev pub front_along : List ℕ → Front
-  front_along path = after_ends domains m (after_links domains m (begin_along path) (into_fields (links_on domains m path))) (ends_of false (links_on domains m path))
+  front_along path = after_route domains m (begin_along path) path
 
   abbrev pub front_within : List ℕ → Bool
-  front_within path =
-      links_within domains m (begin_along path) (into_fields (links_on domains m path))
-      && ends_within domains m (after_links domains m (begin_along path) (into_fields (links_on domains m path))) (ends_of false (links_on domains m path))
+  front_within path = route_within domains m (begin_along path) path

@@ -3,12 +3,16 @@
 --   after_link, after_links  what stands behind a link into a field, and behind several
 --   first_at, size_at, after_field, after_place    the First and the Size of a link, and what stands behind its field
 --   after_end, after_ends    what stands behind the condition of a link at the end, and behind several
---   after_path, path_within   what stands behind a path, and whether it stays within the path limit
+--   after_route, after_path    what stands behind a path, and behind the conditions at its end
+--   route_within, path_within  whether these stay within the path limit
+--   Gathers                  what a call that gathers does to what stands before it
 --   ends_of, forms_in         which links are asked for at the end, and what was gathered as forms
 --   link_within, links_within, end_within, ends_within    whether they stay within the path limit
-use Rattle.std.specs.Prelude.{List, [], ◌∷◌, ◌++◌, ℕ, ◌+◌, Bool, true, false, ◌&&◌, nat_le, if◌then◌else◌, Option}
+use Rattle.std.specs.Prelude.{◌≡◌, Result, IfErr, OnOk, List, [], ◌∷◌, ◌++◌, ℕ, ◌+◌, Bool, true, false, ◌&&◌, nat_le, if◌then◌else◌, Option}
 use Rattle.rx_types.specs.Domain.{Domain}
 use Rattle.rx_graph.specs.Graph.{Arrow, Graph, type_of, limit_of}
+use Rattle.rx_forms.specs.declared.fault.FormFault.{FormFault}
+use Rattle.rx_forms.specs.declared.fault.FormFault.TheVariants.{PathLimit}
 use Rattle.rx_forms.specs.declared.linear.Linear.{Linear}
 use Rattle.rx_forms.specs.declared.linear.Form.{Form}
 use Rattle.rx_forms.specs.declared.builder.Builder.{Builder}
@@ -17,9 +21,8 @@ use Rattle.rx_forms.specs.Linear.{plus}
 use Rattle.rx_forms.specs.Normal.{Formed, divisions_in, condition}
 use Rattle.rx_forms.specs.Divisions.{divisions}
 use Rattle.rx_forms.specs.Limits.{is_low, all_kept, is_within}
-use Rattle.rx_forms.specs.Steps.{Step, form_or, end_form, size_aspect, divisions_in_any, divisions_any, scalars_in, first_form, size_form, condition_form, division_forms, formed_at, next_scalar, next_division, target_field, links_on}
-use Rattle.rx_forms.specs.Worked.{aspect_within, size_otherwise, number_at}
-use Rattle.rx_forms.specs.Gathered.{met_at, into_fields, others}
+use Rattle.rx_forms.specs.Steps.{Step, form_or, end_form, size_aspect, divisions_in_any, divisions_any, scalars_in, first_form, size_form, condition_form, division_forms, formed_at, next_scalar, next_division, target_field, links_on, met_at, into_fields, others}
+use Rattle.rx_forms.specs.Expressions.{aspect_within, size_otherwise, number_at}
 use Rattle.rx_forms.specs.Code.{formed_all}
 
 pub record Front : Type 0 where
@@ -30,6 +33,13 @@ pub record Front : Type 0 where
   pub firsts : List Linear
   pub sizes : List Linear
   pub conditions : List Form
+
+-- A call that gathers: the new front is the expected one, and it stays within the path limit. It answers PathLimit only where
+-- that is passed.
+pub record Gathers (result : Result (Unit {0}) FormFault) (new expected : Front) (kept : Bool) : Type 0 where
+  pub gone : OnOk result (new ≡ expected)
+  pub within : OnOk result (kept ≡ true)
+  pub limit : IfErr result (λ e. e ≡ PathLimit → kept ≡ false)
 
 -- what the code keeps
 abbrev pub front_of : Builder → Front
@@ -128,15 +138,24 @@ module _ (domains : List Domain) (m : Graph) where
   ends_within front (link ∷ links) = is_within front.fields front.division link.condition && ends_within (after_end front link) links
 
 module _ (domains : List Domain) (m : Graph) where
-  -- behind the links of a path into fields and the conditions at its end
+  -- behind the links of a path into fields, and the condition of its link to null
+  abbrev pub after_route : Front → List ℕ → Front
+  after_route front path = after_ends domains m (after_links domains m front (into_fields (links_on domains m path))) (ends_of false (links_on domains m path))
+
+  abbrev pub route_within : Front → List ℕ → Bool
+  route_within front path =
+      links_within domains m front (into_fields (links_on domains m path))
+      && ends_within domains m (after_links domains m front (into_fields (links_on domains m path))) (ends_of false (links_on domains m path))
+
+  -- behind these and the conditions at its end
   abbrev pub after_path : Front → List ℕ → List ℕ → Front
-  after_path front path out = after_ends domains m (after_ends domains m (after_links domains m front (into_fields (links_on domains m path))) (ends_of false (links_on domains m path))) (links_on domains m out)
+  after_path front path out = after_ends domains m (after_route front path) (links_on domains m out)
 
   abbrev pub path_within : Front → List ℕ → List ℕ → Bool
   path_within front path out =
       links_within domains m front (into_fields (links_on domains m path))
       && (ends_within domains m (after_links domains m front (into_fields (links_on domains m path))) (ends_of false (links_on domains m path))
-      && ends_within domains m (after_ends domains m (after_links domains m front (into_fields (links_on domains m path))) (ends_of false (links_on domains m path))) (links_on domains m out))
+      && ends_within domains m (after_route front path) (links_on domains m out))
 
 -- what was gathered, as the forms of a path
 abbrev pub forms_in : Front → Forms

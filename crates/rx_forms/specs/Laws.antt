@@ -21,10 +21,8 @@ use Rattle.rx_forms.specs.declared.linear.Form.{Form}
 use Rattle.rx_forms.specs.Linear.{at, meets, not_below_zero}
 use Rattle.rx_forms.specs.Normal.{Formed, linear, condition, agree, IsNumeric, IsCondition}
 use Rattle.rx_forms.specs.Divisions.{divisions, quotients}
-use Rattle.rx_forms.specs.Points.{Represents, Solves, Matches}
-use Rattle.rx_forms.specs.Steps.{LeadsThrough, HoldsAt, steps_of, links_on, scalars_on, formed_after}
-use Rattle.rx_forms.specs.Gathered.{into_fields, forms_along, variables_along}
-use Rattle.rx_forms.specs.Carried.{numbers_of, point_of}
+use Rattle.rx_forms.specs.Points.{Represents, Solves, Matches, numbers_of, point_of}
+use Rattle.rx_forms.specs.Steps.{LeadsThrough, HoldsAt, steps_of, links_on, scalars_on, formed_after, into_fields, forms_along, variables_along}
 use Rattle.rx_forms.specs.Placing.{AreNumbersFor, ArePlacedOn, HaveValues, quotients_on, point_on, rows_by_link}
 
 -- ---- expressions

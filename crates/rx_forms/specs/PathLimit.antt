@@ -15,7 +15,7 @@ use Rattle.rx_graph.specs.Checks.{is_node}
 use Rattle.rx_graph.specs.Cycles.{IsLink, IsPath, HasPathsUpTo}
 use Rattle.rx_graph.specs.Elaborated.{IsElaborated}
 use Rattle.rx_graph.specs.Onward.{onward}
-use Rattle.rx_forms.specs.Gathered.{passes_limit}
+use Rattle.rx_forms.specs.Steps.{passes_limit}
 
 -- link i leads from the node
 abbrev pub LeadsFrom : Graph → Node → ℕ → Type 0

@@ -17,9 +17,8 @@ use Rattle.rx_forms.specs.declared.forms.Forms.{Forms}
 use Rattle.rx_forms.specs.Linear.{at, meets}
 use Rattle.rx_forms.specs.Normal.{Formed, divisions_in}
 use Rattle.rx_forms.specs.Divisions.{divisions, quotients}
-use Rattle.rx_forms.specs.Steps.{target_field, division_forms, links_on}
-use Rattle.rx_forms.specs.Gathered.{into_fields, steps_along, fields_along, next_along, ends_along}
-use Rattle.rx_forms.specs.Carried.{numbers_of, quotients_along}
+use Rattle.rx_forms.specs.Steps.{target_field, division_forms, links_on, into_fields, steps_along, fields_along, next_along, ends_along}
+use Rattle.rx_forms.specs.Points.{numbers_of, quotients_along}
 
 -- whether the conditions of these links are true behind the same fields
 abbrev pub truths_at : Environment → List Arrow → List Bool

@@ -1,4 +1,4 @@
--- The sums and facts of the links along a path.
+-- The sums and facts of the links along a path, of conditions at its end, and of all of it.
 --   Step                         a link into a field, what stands before it, and the numbers of the next variables
 --   first_form, size_form, number_form, formed_by    the place and the number of its target
 --   condition_form, division_forms, place_forms, overlay_form    what holds of a link that is taken
@@ -6,20 +6,26 @@
 --   links_on, leads_to_field     the links of a path, and whether a link leads to a field
 --   LeadsThrough                 the links lead through fields
 --   HoldsAt                      what holds of a link that is taken, holds at a point
---   IsFormable, IsNarrowLink     links whose expressions have sums and facts, and are narrow
-use Rattle.std.specs.Prelude.{◌≡◌, List, [], ◌∷◌, ◌++◌, ℕ, ◌+◌, ◌==◌, Bool, true, false, ◌||◌, if◌then◌else◌, ℤ, pos, Option, Some, None, slice_get}
+--   conditions_from, rows_from, met_from, past    the facts, division rows, sums met and variables of conditions at the end
+--   met_at                       the sums that are met at a link into a field
+--   into_fields, others          the links of a path that lead to fields, and the one to null
+--   forms_along                  all forms of a path
+--   passes_limit                 whether the path passes the path limit
+use Rattle.std.specs.Prelude.{◌≡◌, List, [], ◌∷◌, ◌++◌, ℕ, ◌+◌, ◌==◌, Bool, true, false, not, ◌||◌, ◌&&◌, if◌then◌else◌, nat_le, map, ℤ, pos, Option, Some, None, slice_get}
+use Rattle.std.specs.List.{flat_map, filter}
 use Rattle.rx_types.specs.Tree.{Tree}
 use Rattle.rx_types.specs.Domain.{Domain, size_of}
-use Rattle.rx_types.specs.Narrow.{IsNarrow}
 use Rattle.rx_graph.specs.declared.message.Node.{Node}
 use Rattle.rx_graph.specs.declared.message.Node.TheVariants.{Start, At, Null}
-use Rattle.rx_graph.specs.Graph.{Arrow, Graph, type_of, overlay_of}
+use Rattle.rx_graph.specs.Graph.{Arrow, Graph, type_of, overlay_of, limit_of}
 use Rattle.rx_graph.specs.Cycles.{IsLink}
 use Rattle.rx_forms.specs.declared.linear.Linear.{Linear}
 use Rattle.rx_forms.specs.declared.linear.Form.{Form, All}
+use Rattle.rx_forms.specs.declared.forms.Forms.{Forms}
 use Rattle.rx_forms.specs.Linear.{constant, term, plus, minus, equal, meets, not_below_zero}
-use Rattle.rx_forms.specs.Normal.{Formed, formed_of, linear, bits, divisions_in, condition, IsNumeric, IsCondition}
+use Rattle.rx_forms.specs.Normal.{Formed, formed_of, linear, bits, divisions_in, condition}
 use Rattle.rx_forms.specs.Divisions.{divisions}
+use Rattle.rx_forms.specs.Limits.{Met, Limited, met, all_kept}
 
 -- A link of a path into a field, the sums of the fields before it, and the numbers of the next variables: of the field's
 -- number, if it is a scalar, and of the first division.
@@ -187,30 +193,75 @@ module _ (domains : List Domain) (m : Graph) where
     pub typed : meets (type_form_any type_form (type_of domains m step.field) step) point ≡ true
     pub overlaid : meets (overlay_form step) point ≡ true
 
--- ---- what has sums and facts
+-- ---- conditions at the end of a path, each with the variables behind those of the one before
 
-abbrev pub IsNumericIfAny : Option Tree → Type 0
-IsNumericIfAny None = Unit {0}
-IsNumericIfAny (Some x) = IsNumeric x
+abbrev pub past : ℕ → List Arrow → ℕ
+past n [] = n
+past n (link ∷ links) = past (n + divisions_in link.condition) links
 
--- the link's condition has a fact, and its First and Size have sums
-pub record IsFormable (limit : ℕ → ℕ) (link : Arrow) : Type 0 where
-  pub condition : IsCondition limit link.condition
-  pub first : IsNumericIfAny link.first
-  pub size : IsNumericIfAny link.size
+abbrev pub conditions_from : List Formed → ℕ → List Arrow → List Form
+conditions_from fields n [] = []
+conditions_from fields n (link ∷ links) = condition fields n true link.condition ∷ conditions_from fields (n + divisions_in link.condition) links
 
-abbrev pub IsNarrowIfAny : (ℕ → ℕ) → Option Tree → Type 0
-IsNarrowIfAny limit None = Unit {0}
-IsNarrowIfAny limit (Some x) = IsNarrow limit x
+abbrev pub rows_from : (ℕ → ℕ) → List Formed → ℕ → List Arrow → List Linear
+rows_from limit fields n [] = []
+rows_from limit fields n (link ∷ links) = divisions limit fields n link.condition ++ rows_from limit fields (n + divisions_in link.condition) links
 
--- the link's expressions are narrow
-pub record IsNarrowLink (limit : ℕ → ℕ) (link : Arrow) : Type 0 where
-  pub condition : IsNarrow limit link.condition
-  pub first : IsNarrowIfAny limit link.first
-  pub size : IsNarrowIfAny limit link.size
+abbrev pub met_from : List Formed → ℕ → List Arrow → List Met
+met_from fields n [] = []
+met_from fields n (link ∷ links) = met fields n link.condition ++ met_from fields (n + divisions_in link.condition) links
 
-abbrev pub AreFormable : (ℕ → ℕ) → Graph → Type 0
-AreFormable limit m = (i : ℕ) (link : Arrow) → IsLink m i link → IsFormable limit link
+-- ---- links into fields
 
-abbrev pub AreNarrow : (ℕ → ℕ) → Graph → Type 0
-AreNarrow limit m = (i : ℕ) (link : Arrow) → IsLink m i link → IsNarrowLink limit link
+abbrev pub met_any : List Formed → ℕ → Option Tree → List Met
+met_any fields n None = []
+met_any fields n (Some x) = met fields n x
+
+-- what is met in the condition and the aspects of a link, and its First, its Size and its end
+abbrev pub met_at : Option Domain → Step → List Met
+met_at type step =
+    met step.before step.division step.link.condition
+    ++ (met_any step.before (first_division step) step.link.first
+    ++ (Limited (first_form step)
+    ∷ (met_any step.before (size_division step) (size_aspect type step.link.size)
+    ++ Limited (size_form type step) ∷ Limited (plus (first_form step) (size_form type step)) ∷ [])))
+
+abbrev pub into_fields : List Arrow → List Arrow
+into_fields links = filter leads_to_field links
+
+abbrev pub others : List Arrow → List Arrow
+others links = filter (λ link. not (leads_to_field link)) links
+
+module _ (domains : List Domain) (m : Graph) where
+  -- the steps of a path, with the numbers of its first variables
+  abbrev pub steps_along : List ℕ → List Step
+  steps_along path = steps_from domains m [] 1 (1 + scalars_on domains m (into_fields (links_on domains m path))) (into_fields (links_on domains m path))
+
+  abbrev pub fields_along : List ℕ → List Formed
+  fields_along path = formed_after domains m [] 1 (1 + scalars_on domains m (into_fields (links_on domains m path))) (into_fields (links_on domains m path))
+
+  -- the number of the first variable behind those of the links into fields
+  abbrev pub next_along : List ℕ → ℕ
+  next_along path = division_after domains m (1 + scalars_on domains m (into_fields (links_on domains m path))) (into_fields (links_on domains m path))
+
+  -- the link to null, if the path has one, and the further links at its end
+  abbrev pub ends_along : List ℕ → List ℕ → List Arrow
+  ends_along path out = others (links_on domains m path) ++ links_on domains m out
+
+  abbrev pub variables_along : List ℕ → List ℕ → ℕ
+  variables_along path out = past (next_along path) (ends_along path out)
+
+  abbrev pub forms_along : List ℕ → List ℕ → Forms
+  forms_along path out = record {
+    variables = variables_along path out;
+    divisions = flat_map (λ step. division_forms (limit_of domains m) (type_of domains m step.field) step) (steps_along path) ++ rows_from (limit_of domains m) (fields_along path) (next_along path) (ends_along path out);
+    firsts = map first_form (steps_along path);
+    sizes = map (λ step. size_form (type_of domains m step.field) step) (steps_along path);
+    conditions = map condition_form (steps_along path) ++ conditions_from (fields_along path) (next_along path) (ends_along path out);
+  }
+
+  -- The length, the scalars and the divisions make more than 190 variables, or a sum that is met is too large.
+  abbrev pub passes_limit : List ℕ → List ℕ → Bool
+  passes_limit path out =
+      not (nat_le (variables_along path out) 190
+      && all_kept (flat_map (λ step. met_at (type_of domains m step.field) step) (steps_along path) ++ met_from (fields_along path) (next_along path) (ends_along path out)))

@@ -6,9 +6,10 @@ ghost use Rattle.rx_graph.specs.Graph.{type_of};
 ghost use Rattle.rx_forms.specs.Linear.{constant, plus, minus};
 ghost use Rattle.rx_forms.specs.Normal.{bits, linear, IsNumeric};
 ghost use Rattle.rx_types.specs.Narrow.{IsNarrow};
-ghost use Rattle.rx_forms.specs.Steps.{end_form, form_or, size_aspect, IsNumericIfAny, IsNarrowIfAny};
+ghost use Rattle.rx_forms.specs.Steps.{end_form, form_or, size_aspect};
+ghost use Rattle.rx_forms.specs.Links.{IsNumericIfAny, IsNarrowIfAny};
 ghost use Rattle.rx_forms.specs.Limits.{is_low};
-ghost use Rattle.rx_forms.specs.Worked.{HasAspect, aspect_within, size_otherwise};
+ghost use Rattle.rx_forms.specs.Expressions.{HasAspect, aspect_within, size_otherwise};
 ghost use Rattle.rx_forms.specs.Code.{formed_all, limits};
 
 use crate::arithmetic::{constant, copy, minus, plus};

@@ -8,10 +8,11 @@ ghost use Rattle.rx_graph.specs.Graph.{arrow_of, type_of};
 ghost use Rattle.rx_forms.specs.Linear.{plus};
 ghost use Rattle.rx_forms.specs.Normal.{IsCondition};
 ghost use Rattle.rx_forms.specs.Limits.{is_low, is_within};
-ghost use Rattle.rx_forms.specs.Steps.{scalars_in, IsFormable, IsNarrowLink};
-ghost use Rattle.rx_forms.specs.Worked.{number_at};
+ghost use Rattle.rx_forms.specs.Steps.{scalars_in};
+ghost use Rattle.rx_forms.specs.Links.{IsFormable, IsNarrowLink};
+ghost use Rattle.rx_forms.specs.Expressions.{number_at};
 ghost use Rattle.rx_forms.specs.Code.{number_by, formed, formed_all, limits};
-ghost use Rattle.rx_forms.specs.Fronts.{front_of, first_front, after_field, after_place, after_end, after_link, place_within, link_within};
+ghost use Rattle.rx_forms.specs.Fronts.{Gathers, front_of, first_front, after_field, after_place, after_end, after_link, place_within, link_within};
 
 use crate::arithmetic::copy;
 use crate::aspect::{first_form, low_sum, size_form};
@@ -117,9 +118,7 @@ fn add_field(
     builder: &mut Builder,
 ) -> Result<(), FormFault>
     requires small { builder.old.scalar < 2 ^ 32 }
-    ensures gone { OnOk result (front_of builder.new ≡ after_field (type_of message.now.domains message.now.graph field) field first size (front_of builder.old)) }
-    ensures low { OnOk result (is_low (plus first size) ≡ true) }
-    ensures limit { IfErr result (λ e. e ≡ FormFault.PathLimit → is_low (plus first size) ≡ false) }
+    ensures { Gathers result (front_of builder.new) (after_field (type_of message.now.domains message.now.graph field) field first size (front_of builder.old)) (is_low (plus first size)) }
 {
     let end = low_sum(alloc, &first, &size)?;
     keep_place(
@@ -156,9 +155,7 @@ fn place(
     requires target { link.now.target ≡ At field }
     requires small { builder.old.scalar < 2 ^ 32 }
     requires room { builder.old.work.next ≤ 190 }
-    ensures gone { OnOk result (front_of builder.new ≡ after_place message.now.domains message.now.graph (type_of message.now.domains message.now.graph field) (front_of builder.old) (arrow_of link.now)) }
-    ensures within { OnOk result (place_within (type_of message.now.domains message.now.graph field) (front_of builder.old) (arrow_of link.now) ≡ true) }
-    ensures limit { IfErr result (λ e. e ≡ FormFault.PathLimit → place_within (type_of message.now.domains message.now.graph field) (front_of builder.old) (arrow_of link.now) ≡ false) }
+    ensures { Gathers result (front_of builder.new) (after_place message.now.domains message.now.graph (type_of message.now.domains message.now.graph field) (front_of builder.old) (arrow_of link.now)) (place_within (type_of message.now.domains message.now.graph field) (front_of builder.old) (arrow_of link.now)) }
 {
     let first = first_form(
         alloc,
@@ -190,9 +187,7 @@ pub fn add_condition(
     requires condition { IsCondition (limits message.now) (tree_of link.now.condition) }
     requires narrow { IsNarrow (limits message.now) (tree_of link.now.condition) }
     requires room { builder.old.work.next ≤ 190 }
-    ensures gone { OnOk result (front_of builder.new ≡ after_end message.now.domains message.now.graph (front_of builder.old) (arrow_of link.now)) }
-    ensures within { OnOk result (is_within (formed_all builder.old.fields.items) builder.old.work.next (tree_of link.now.condition) ≡ true) }
-    ensures limit { IfErr result (λ e. e ≡ FormFault.PathLimit → is_within (formed_all builder.old.fields.items) builder.old.work.next (tree_of link.now.condition) ≡ false) }
+    ensures { Gathers result (front_of builder.new) (after_end message.now.domains message.now.graph (front_of builder.old) (arrow_of link.now)) (is_within (formed_all builder.old.fields.items) builder.old.work.next (tree_of link.now.condition)) }
 {
     let fact = condition_form(
         alloc,
@@ -220,9 +215,7 @@ pub fn add_link(
     requires target { link.now.target ≡ At field }
     requires small { builder.old.scalar < 2 ^ 32 }
     requires room { builder.old.work.next ≤ 190 }
-    ensures gone { OnOk result (front_of builder.new ≡ after_link message.now.domains message.now.graph (front_of builder.old) (arrow_of link.now)) }
-    ensures within { OnOk result (link_within message.now.domains message.now.graph (front_of builder.old) (arrow_of link.now) ≡ true) }
-    ensures limit { IfErr result (λ e. e ≡ FormFault.PathLimit → link_within message.now.domains message.now.graph (front_of builder.old) (arrow_of link.now) ≡ false) }
+    ensures { Gathers result (front_of builder.new) (after_link message.now.domains message.now.graph (front_of builder.old) (arrow_of link.now)) (link_within message.now.domains message.now.graph (front_of builder.old) (arrow_of link.now)) }
 {
     add_condition(alloc, link, message, builder)?;
     place(alloc, link, field, message, builder)

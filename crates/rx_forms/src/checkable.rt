@@ -83,13 +83,6 @@ impl CheckableSpec {
         CheckableSpec { spec }
     }
 
-    /// The specification as it stands in memory.
-    pub fn spec(&self) -> &Spec
-        ensures { messages_of result.now ≡ self.now }
-    {
-        &self.spec
-    }
-
     /// How many messages there are.
     pub fn count(&self) -> usize
         ensures { result ≡ length self.now.graphs }

@@ -8,7 +8,7 @@ ghost use Rattle.rx_forms.specs.declared.linear.Form.{AtLeast};
 ghost use Rattle.rx_forms.specs.Linear.{constant, minus, less_one, equal};
 ghost use Rattle.rx_forms.specs.Normal.{formed_of, agree, joined, settled, condition, IsNumeric, IsCondition};
 ghost use Rattle.rx_forms.specs.Limits.{is_low, all_kept, differences, is_within, sides_within};
-ghost use Rattle.rx_forms.specs.Worked.{IsTruth, multiple, by_differences, spelled_in, agreed, takes_all, HasComparison, HasFact};
+ghost use Rattle.rx_forms.specs.Expressions.{IsTruth, multiple, by_differences, spelled_in, agreed, takes_all, HasComparison, HasFact};
 ghost use Rattle.rx_forms.specs.Code.{number_by, formed_all, limits};
 
 use crate::arithmetic::{constant, minus, one_less, term};

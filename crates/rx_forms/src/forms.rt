@@ -4,9 +4,8 @@ ghost use Rattle.std.specs.Prelude.{◌≡◌, ◌+◌, ◌<◌, ◌≤◌, ◌&
 ghost use Rattle.rx_types.specs.Domain.{Domain, boolean};
 ghost use Rattle.rx_graph.specs.Elaborated.{IsElaborated};
 ghost use Rattle.rx_graph.specs.Graph.{domains_of, graph_of};
-ghost use Rattle.rx_forms.specs.Steps.{links_on, scalars_on};
-ghost use Rattle.rx_forms.specs.Gathered.{into_fields, forms_along, passes_limit};
-ghost use Rattle.rx_forms.specs.Fronts.{front_of, forms_in, after_links, links_within, after_ends, ends_within, ends_of, after_path, path_within};
+ghost use Rattle.rx_forms.specs.Steps.{links_on, scalars_on, into_fields, forms_along, passes_limit};
+ghost use Rattle.rx_forms.specs.Fronts.{Gathers, front_of, forms_in, after_route, route_within, after_path, path_within};
 
 use crate::builder::{Builder, start};
 use crate::fault::FormFault;
@@ -62,11 +61,8 @@ pub fn gather_path(
 ) -> Result<(), FormFault>
     requires few { builder.old.scalar + scalars_on message.now.domains message.now.graph (into_fields (links_on message.now.domains message.now.graph path.now)) ≤ 190 }
     requires room { builder.old.work.next ≤ 190 }
-    ensures gone { OnOk result (front_of builder.new ≡ after_ends message.now.domains message.now.graph (after_links message.now.domains message.now.graph (front_of builder.old) (into_fields (links_on message.now.domains message.now.graph path.now))) (ends_of false (links_on message.now.domains message.now.graph path.now))) }
-    ensures within { OnOk result (links_within message.now.domains message.now.graph (front_of builder.old) (into_fields (links_on message.now.domains message.now.graph path.now)) ≡ true) }
-    ensures ends { OnOk result (ends_within message.now.domains message.now.graph (after_links message.now.domains message.now.graph (front_of builder.old) (into_fields (links_on message.now.domains message.now.graph path.now))) (ends_of false (links_on message.now.domains message.now.graph path.now)) ≡ true) }
+    ensures gathered { Gathers result (front_of builder.new) (after_route message.now.domains message.now.graph (front_of builder.old) path.now) (route_within message.now.domains message.now.graph (front_of builder.old) path.now) }
     ensures room { OnOk result (builder.new.work.next ≤ 190) }
-    ensures limit { IfErr result (λ e. e ≡ FormFault.PathLimit → (links_within message.now.domains message.now.graph (front_of builder.old) (into_fields (links_on message.now.domains message.now.graph path.now)) && ends_within message.now.domains message.now.graph (after_links message.now.domains message.now.graph (front_of builder.old) (into_fields (links_on message.now.domains message.now.graph path.now))) (ends_of false (links_on message.now.domains message.now.graph path.now))) ≡ false) }
 {
     gather_fields(alloc, path, message, builder)?;
     gather_ends(alloc, path, false, message, builder)
@@ -83,9 +79,7 @@ fn gather_all(
 ) -> Result<(), FormFault>
     requires few { builder.old.scalar + scalars_on message.now.domains message.now.graph (into_fields (links_on message.now.domains message.now.graph path.now)) ≤ 190 }
     requires room { builder.old.work.next ≤ 190 }
-    ensures gone { OnOk result (front_of builder.new ≡ after_path message.now.domains message.now.graph (front_of builder.old) path.now out.now) }
-    ensures within { OnOk result (path_within message.now.domains message.now.graph (front_of builder.old) path.now out.now ≡ true) }
-    ensures limit { IfErr result (λ e. e ≡ FormFault.PathLimit → path_within message.now.domains message.now.graph (front_of builder.old) path.now out.now ≡ false) }
+    ensures { Gathers result (front_of builder.new) (after_path message.now.domains message.now.graph (front_of builder.old) path.now out.now) (path_within message.now.domains message.now.graph (front_of builder.old) path.now out.now) }
 {
     gather_path(alloc, path, message, builder)?;
     gather_ends(alloc, out, true, message, builder)

@@ -3,9 +3,8 @@
 ghost use Rattle.std.specs.Prelude.{◌≡◌, ℕ, ◌+◌, ◌≤◌, ◌∷◌, [], true, false, not, ◌||◌, IfErr, OnOk};
 ghost use Rattle.rx_graph.specs.Cycles.{IsLink};
 ghost use Rattle.rx_graph.specs.Graph.{arrow_of};
-ghost use Rattle.rx_forms.specs.Steps.{leads_to_field, links_on, scalars_on};
-ghost use Rattle.rx_forms.specs.Gathered.{into_fields};
-ghost use Rattle.rx_forms.specs.Fronts.{front_of, after_links, links_within, after_ends, ends_within, ends_of};
+ghost use Rattle.rx_forms.specs.Steps.{leads_to_field, links_on, scalars_on, into_fields};
+ghost use Rattle.rx_forms.specs.Fronts.{Gathers, front_of, after_links, links_within, after_ends, ends_within, ends_of};
 
 use crate::builder::{Builder, add_condition, add_link, scalars_in};
 use crate::fault::FormFault;
@@ -59,9 +58,7 @@ fn gather_link(
     requires link { (i : ℕ) × IsLink message.now.graph i (arrow_of link.now) }
     requires few { builder.old.scalar ≤ 190 }
     requires room { builder.old.work.next ≤ 190 }
-    ensures gone { OnOk result (front_of builder.new ≡ after_links message.now.domains message.now.graph (front_of builder.old) (into_fields (arrow_of link.now ∷ []))) }
-    ensures within { OnOk result (links_within message.now.domains message.now.graph (front_of builder.old) (into_fields (arrow_of link.now ∷ [])) ≡ true) }
-    ensures limit { IfErr result (λ e. e ≡ FormFault.PathLimit → links_within message.now.domains message.now.graph (front_of builder.old) (into_fields (arrow_of link.now ∷ [])) ≡ false) }
+    ensures { Gathers result (front_of builder.new) (after_links message.now.domains message.now.graph (front_of builder.old) (into_fields (arrow_of link.now ∷ []))) (links_within message.now.domains message.now.graph (front_of builder.old) (into_fields (arrow_of link.now ∷ []))) }
 {
     links_have_forms(message);
     match link.target {
@@ -80,9 +77,7 @@ fn gather_index(
 ) -> Result<(), FormFault>
     requires few { builder.old.scalar ≤ 190 }
     requires room { builder.old.work.next ≤ 190 }
-    ensures gone { OnOk result (front_of builder.new ≡ after_links message.now.domains message.now.graph (front_of builder.old) (into_fields (links_on message.now.domains message.now.graph (index ∷ [])))) }
-    ensures within { OnOk result (links_within message.now.domains message.now.graph (front_of builder.old) (into_fields (links_on message.now.domains message.now.graph (index ∷ []))) ≡ true) }
-    ensures limit { IfErr result (λ e. e ≡ FormFault.PathLimit → links_within message.now.domains message.now.graph (front_of builder.old) (into_fields (links_on message.now.domains message.now.graph (index ∷ []))) ≡ false) }
+    ensures { Gathers result (front_of builder.new) (after_links message.now.domains message.now.graph (front_of builder.old) (into_fields (links_on message.now.domains message.now.graph (index ∷ [])))) (links_within message.now.domains message.now.graph (front_of builder.old) (into_fields (links_on message.now.domains message.now.graph (index ∷ [])))) }
 {
     match message.link(index) {
         Some(link) => gather_link(alloc, link, message, builder),
@@ -99,9 +94,7 @@ pub fn gather_fields(
 ) -> Result<(), FormFault>
     requires few { builder.old.scalar + scalars_on message.now.domains message.now.graph (into_fields (links_on message.now.domains message.now.graph path.now)) ≤ 190 }
     requires room { builder.old.work.next ≤ 190 }
-    ensures gone { OnOk result (front_of builder.new ≡ after_links message.now.domains message.now.graph (front_of builder.old) (into_fields (links_on message.now.domains message.now.graph path.now))) }
-    ensures within { OnOk result (links_within message.now.domains message.now.graph (front_of builder.old) (into_fields (links_on message.now.domains message.now.graph path.now)) ≡ true) }
-    ensures limit { IfErr result (λ e. e ≡ FormFault.PathLimit → links_within message.now.domains message.now.graph (front_of builder.old) (into_fields (links_on message.now.domains message.now.graph path.now)) ≡ false) }
+    ensures { Gathers result (front_of builder.new) (after_links message.now.domains message.now.graph (front_of builder.old) (into_fields (links_on message.now.domains message.now.graph path.now))) (links_within message.now.domains message.now.graph (front_of builder.old) (into_fields (links_on message.now.domains message.now.graph path.now))) }
 {
     for index in path {
         gather_index(alloc, *index, message, builder)?;
@@ -122,9 +115,7 @@ fn gather_end(
 ) -> Result<(), FormFault>
     requires link { (i : ℕ) × IsLink message.now.graph i (arrow_of link.now) }
     requires room { builder.old.work.next ≤ 190 }
-    ensures gone { OnOk result (front_of builder.new ≡ after_ends message.now.domains message.now.graph (front_of builder.old) (ends_of all (arrow_of link.now ∷ []))) }
-    ensures within { OnOk result (ends_within message.now.domains message.now.graph (front_of builder.old) (ends_of all (arrow_of link.now ∷ [])) ≡ true) }
-    ensures limit { IfErr result (λ e. e ≡ FormFault.PathLimit → ends_within message.now.domains message.now.graph (front_of builder.old) (ends_of all (arrow_of link.now ∷ [])) ≡ false) }
+    ensures { Gathers result (front_of builder.new) (after_ends message.now.domains message.now.graph (front_of builder.old) (ends_of all (arrow_of link.now ∷ []))) (ends_within message.now.domains message.now.graph (front_of builder.old) (ends_of all (arrow_of link.now ∷ []))) }
 {
     links_have_forms(message);
     if is_asked(all, link) {
@@ -160,9 +151,7 @@ fn gather_end_at(
     builder: &mut Builder,
 ) -> Result<(), FormFault>
     requires room { builder.old.work.next ≤ 190 }
-    ensures gone { OnOk result (front_of builder.new ≡ after_ends message.now.domains message.now.graph (front_of builder.old) (ends_of all (links_on message.now.domains message.now.graph (index ∷ [])))) }
-    ensures within { OnOk result (ends_within message.now.domains message.now.graph (front_of builder.old) (ends_of all (links_on message.now.domains message.now.graph (index ∷ []))) ≡ true) }
-    ensures limit { IfErr result (λ e. e ≡ FormFault.PathLimit → ends_within message.now.domains message.now.graph (front_of builder.old) (ends_of all (links_on message.now.domains message.now.graph (index ∷ []))) ≡ false) }
+    ensures { Gathers result (front_of builder.new) (after_ends message.now.domains message.now.graph (front_of builder.old) (ends_of all (links_on message.now.domains message.now.graph (index ∷ [])))) (ends_within message.now.domains message.now.graph (front_of builder.old) (ends_of all (links_on message.now.domains message.now.graph (index ∷ [])))) }
 {
     match message.link(index) {
         Some(link) => gather_end(alloc, link, all, message, builder),
@@ -179,9 +168,7 @@ pub fn gather_ends(
     builder: &mut Builder,
 ) -> Result<(), FormFault>
     requires room { builder.old.work.next ≤ 190 }
-    ensures gone { OnOk result (front_of builder.new ≡ after_ends message.now.domains message.now.graph (front_of builder.old) (ends_of all (links_on message.now.domains message.now.graph path.now))) }
-    ensures within { OnOk result (ends_within message.now.domains message.now.graph (front_of builder.old) (ends_of all (links_on message.now.domains message.now.graph path.now)) ≡ true) }
-    ensures limit { IfErr result (λ e. e ≡ FormFault.PathLimit → ends_within message.now.domains message.now.graph (front_of builder.old) (ends_of all (links_on message.now.domains message.now.graph path.now)) ≡ false) }
+    ensures { Gathers result (front_of builder.new) (after_ends message.now.domains message.now.graph (front_of builder.old) (ends_of all (links_on message.now.domains message.now.graph path.now))) (ends_within message.now.domains message.now.graph (front_of builder.old) (ends_of all (links_on message.now.domains message.now.graph path.now))) }
 {
     for index in path {
         gather_end_at(alloc, *index, all, message, builder)?;

@@ -1,6 +1,6 @@
 //! What holds of forms, each as the clause of a function that does nothing.
 
-ghost use Rattle.rx_forms.specs.Steps.{AreFormable, AreNarrow};
+ghost use Rattle.rx_forms.specs.Links.{AreFormable, AreNarrow};
 ghost use Rattle.rx_forms.specs.Laws.{SumsHaveValues, FactsHoldWhereTrue, RowsLeaveNoChoice, RowsHoldOfQuotients, QuotientsSolve, RowsMakePartial, PartialMakesRows, NumbersPlaceFields, FormsHaveValues, DivisionRowsHold, RowsLeaveOnePoint};
 ghost use Rattle.rx_forms.specs.Code.{limits};
 

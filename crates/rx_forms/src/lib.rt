@@ -23,14 +23,14 @@ mod work;
 
 pub use arithmetic::{constant, copy, minus, term};
 pub use aspect::{first_form, size_form};
-pub use builder::{Builder, add_condition, add_link, start};
+pub use builder::{Builder, start};
 pub use checkable::{Checkable, CheckableSpec};
 pub use condition::condition_form;
 pub use division::divide;
 pub use entry::{size_of, variable_form, variable_of};
 pub use fault::{FormFault, NoMemory};
 pub use field::FieldForms;
-pub use forms::{Forms, finish, forms_of, forms_with};
+pub use forms::{Forms, forms_of, forms_with};
 pub use gather::{gather_fields, scalars_along};
 pub use interval::interval as interval_of;
 pub use laws::{

@@ -7,7 +7,7 @@ ghost use Rattle.rx_forms.specs.Linear.{less_one, minus, term};
 ghost use Rattle.rx_forms.specs.Normal.{bits, formed_of, IsNumeric};
 ghost use Rattle.rx_forms.specs.Divisions.{division_rows};
 ghost use Rattle.rx_forms.specs.Limits.{has_words, all_kept, divided, is_within};
-ghost use Rattle.rx_forms.specs.Worked.{IsLeaf, HasSum, sum_by, divided_by};
+ghost use Rattle.rx_forms.specs.Expressions.{IsLeaf, HasSum, sum_by, divided_by};
 ghost use Rattle.rx_forms.specs.Code.{formed_all, limits};
 
 use crate::arithmetic::{constant, minus, plus, scaled, term};

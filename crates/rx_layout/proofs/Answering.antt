@@ -14,8 +14,8 @@ use Rattle.rx_forms.specs.declared.field.FieldForms.{FieldForms}
 use Rattle.rx_forms.specs.Code.{formed_all}
 use Rattle.rx_forms.specs.Normal.{Formed}
 use Rattle.rx_forms.specs.Steps
-use Rattle.rx_forms.specs.Steps.{Step, AreFormable, AreNarrow, link_then, links_on, scalars_on, place_forms, condition_form, division_forms, type_form_any}
-use Rattle.rx_forms.specs.Gathered.{into_fields}
+use Rattle.rx_forms.specs.Steps.{Step, link_then, links_on, scalars_on, place_forms, condition_form, division_forms, type_form_any, into_fields}
+use Rattle.rx_forms.specs.Links.{AreFormable, AreNarrow}
 use Rattle.rx_forms.specs.Laws.{fields_on}
 use Rattle.rx_forms.specs.Fronts.{Front, front_of, first_front, after_links}
 use Rattle.rx_forms.proofs.Looping.{is_field}
@@ -25,11 +25,10 @@ use Rattle.rx_layout.specs.declared.goal.Goal.{Goal}
 use Rattle.rx_layout.specs.Goals.{source, IsGoal}
 use Rattle.rx_layout.specs.Types.{type_form}
 use Rattle.rx_layout.specs.Parts.{query_of, all_of, parts_of}
-use Rattle.rx_layout.specs.Made
-use Rattle.rx_layout.specs.Made.{placed, behind}
+use Rattle.rx_layout.specs.Laid
 use Rattle.rx_layout.specs.QueryOf
 use Rattle.rx_layout.specs.QueryOf.{Asked, rows, length_form}
-use Rattle.rx_layout.specs.Laid.{end_front, laid, HasForms}
+use Rattle.rx_layout.specs.Laid.{end_front, with_asked, HasForms, placed, behind}
 use Rattle.rx_layout.specs.TypedPath.{TypedPath}
 use Rattle.rx_layout.specs.declared.asked.Asked as code
 use Rattle.rx_layout.proofs.Flat.{flat_parts, four_parts}
@@ -66,10 +65,10 @@ module _ (domains : List Domain) (m : Graph) where
   proper_small (Integer first last size) h = h.1
   proper_small (Enumeration literals size valid) h = h.1
 
-  pub small_types : IsElaborated domains m → Made.HasSmallTypes domains m
+  pub small_types : IsElaborated domains m → Laid.HasSmallTypes domains m
   small_types el f t e = proper_small t (field_proper domains m el f _ t refl e)
 
-  pub proper_types : IsElaborated domains m → Made.HasProperTypes domains m
+  pub proper_types : IsElaborated domains m → Laid.HasProperTypes domains m
   proper_types el f t e = field_proper domains m el f _ t refl e
 
   -- ---- the query
@@ -82,9 +81,9 @@ module _ (domains : List Domain) (m : Graph) where
       ap (λ x. whole x p o c l) a ∙ ap (λ x. whole u x o c l) b ∙ ap (λ x. whole u q x c l) e ∙ ap (λ x. whole u q v x l) f ∙ ap (λ x. whole u q v d x) g
 
   made : (b : Builder) (steps : List Step) (forms : List Form) (divisions : List Linear) (n : ℕ) → b.work.next ≡ n
-      → map (Made.typed_field domains m) b.fields.items ≡ map (λ s. type_form_any type_form (type_of domains m s.field) s) steps
+      → map (Laid.typed_field domains m) b.fields.items ≡ map (λ s. type_form_any type_form (type_of domains m s.field) s) steps
       → map placed b.fields.items ≡ map (λ s. rows (place_forms (type_of domains m s.field) s)) steps
-      → Made.laid_from domains m [] b.fields.items ≡ map (λ s. Steps.overlay_form domains m s) steps
+      → Laid.laid_from domains m [] b.fields.items ≡ map (λ s. Steps.overlay_form domains m s) steps
       → b.conditions ≡ map condition_form steps ++ forms
       → b.work.rows ≡ flat_map divided steps ++ divisions
       → query_of b.work.next (parts_of b.work.next (Stages.gathered_form domains m b)) ≡ query_of n (parts_of n (All (QueryOf.path_forms domains m steps forms divisions)))
@@ -143,41 +142,41 @@ module _ (domains : List Domain) (m : Graph) where
   }
 
   pub front_laid : (fields : Vec FieldForms Global) (path : List ℕ) (goal : Goal) (asked : code.Asked)
-      → formed_all fields.items ≡ (Made.path_front domains m path).fields
-      → laid (end_front (record { domains = domains; graph = m; path = path })) asked ≡ Stages.behind_end domains m path goal
-      → front_of (builder fields (Made.path_front domains m path) asked) ≡ Stages.behind_path domains m path goal
+      → formed_all fields.items ≡ (Laid.path_front domains m path).fields
+      → with_asked (end_front (record { domains = domains; graph = m; path = path })) asked ≡ Stages.behind_end domains m path goal
+      → front_of (builder fields (Laid.path_front domains m path) asked) ≡ Stages.behind_path domains m path goal
   front_laid fields path goal asked e h =
-      let front = Made.path_front domains m path in
+      let front = Laid.path_front domains m path in
       ap (λ (fs : List Formed). record front { fields = fs; division = asked.work.next; rows = front.rows ++ asked.work.rows; conditions = front.conditions ++ asked.forms }) e
       ∙ ap (λ (x : Front). record front { division = x.division; rows = front.rows ++ x.rows; conditions = front.conditions ++ x.conditions }) h
 
-  facts_first : (fields : List FieldForms) (c a last : List Form) → Made.path_facts domains m fields c ++ (a ++ last) ≡ whole (map (Made.typed_field domains m) fields) (map placed fields) (Made.laid_from domains m [] fields) (c ++ a) last
+  facts_first : (fields : List FieldForms) (c a last : List Form) → Laid.path_facts domains m fields c ++ (a ++ last) ≡ whole (map (Laid.typed_field domains m) fields) (map placed fields) (Laid.laid_from domains m [] fields) (c ++ a) last
   facts_first fields c a last =
-      let t = map (Made.typed_field domains m) fields in
+      let t = map (Laid.typed_field domains m) fields in
       let p = map placed fields in
-      let o = Made.laid_from domains m [] fields in
+      let o = Laid.laid_from domains m [] fields in
       append_assoc t (length_form ∷ (p ++ (o ++ c))) (a ++ last)
       ∙ ap (λ x. t ++ (length_form ∷ x)) (append_assoc p (o ++ c) (a ++ last) ∙ ap (λ x. p ++ x) (append_assoc o c (a ++ last) ∙ ap (λ x. o ++ x) (sym (append_assoc c a last))))
 
   pub query_laid : (fields : Vec FieldForms Global) (path : List ℕ) (goal : Goal) (next : ℕ) (facts rows : List Form) (asked : code.Asked)
       → HasForms (record { domains = domains; graph = m; path = path }) fields.items next facts rows
-      → laid (end_front (record { domains = domains; graph = m; path = path })) asked ≡ Stages.behind_end domains m path goal
+      → with_asked (end_front (record { domains = domains; graph = m; path = path })) asked ≡ Stages.behind_end domains m path goal
       → into_fields (links_on domains m path) ≡ links_on domains m path
       → query_of asked.work.next (all_of (map (parts_of asked.work.next) (facts ++ (asked.forms ++ (rows ++ sums asked.work.rows))))) ≡ QueryOf.query_for domains m goal path
   query_laid fields path goal next facts rows asked has h all =
-      let front = Made.path_front domains m path in
+      let front = Laid.path_front domains m path in
       let n = asked.work.next in
       let b = builder fields front asked in
       let last = QueryOf.rows (front.rows ++ asked.work.rows) ∷ [] in
       ap (λ (fs : List Form). query_of n (all_of (map (parts_of n) (fs ++ (asked.forms ++ (rows ++ sums asked.work.rows)))))) has.facts_are
-      ∙ ap (λ (fs : List Form). query_of n (all_of (map (parts_of n) (Made.path_facts domains m fields.items front.conditions ++ (asked.forms ++ (fs ++ sums asked.work.rows)))))) has.rows_are
-      ∙ ap (λ x. query_of n x) (four_parts n (Made.path_facts domains m fields.items front.conditions) asked.forms front.rows asked.work.rows)
+      ∙ ap (λ (fs : List Form). query_of n (all_of (map (parts_of n) (Laid.path_facts domains m fields.items front.conditions ++ (asked.forms ++ (fs ++ sums asked.work.rows)))))) has.rows_are
+      ∙ ap (λ x. query_of n x) (four_parts n (Laid.path_facts domains m fields.items front.conditions) asked.forms front.rows asked.work.rows)
       ∙ ap (λ (fs : List Form). query_of n (parts_of n (All fs))) (facts_first fields.items front.conditions asked.forms last)
       ∙ query_made b goal path (front_laid fields path goal asked has.fields_are h) all
 
 -- the same of a path that the code has under another name, and of facts that it has so
 pub query_is : (p q : TypedPath) (fields : Vec FieldForms Global) (goal : Goal) (next : ℕ) (facts rows : List Form) (asked : code.Asked) (all : List Form) → p ≡ q → HasForms p fields.items next facts rows
-    → laid (end_front p) asked ≡ Stages.behind_end p.domains p.graph p.path goal → into_fields (links_on p.domains p.graph p.path) ≡ links_on p.domains p.graph p.path
+    → with_asked (end_front p) asked ≡ Stages.behind_end p.domains p.graph p.path goal → into_fields (links_on p.domains p.graph p.path) ≡ links_on p.domains p.graph p.path
     → all ≡ facts ++ (asked.forms ++ (rows ++ map (λ f. AtLeast f) asked.work.rows))
     → query_of asked.work.next (all_of (map (parts_of asked.work.next) all)) ≡ QueryOf.query_for q.domains q.graph goal q.path
 query_is p q fields goal next facts rows asked all e has h links k =

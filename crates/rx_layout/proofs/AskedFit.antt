@@ -12,14 +12,14 @@ use Rattle.rx_forms.specs.declared.linear.Linear.{Linear}
 use Rattle.rx_forms.specs.declared.linear.Form.{Form}
 use Rattle.rx_forms.specs.Normal.{Formed, bits}
 use Rattle.rx_forms.specs.Limits.{all_kept, is_within}
-use Rattle.rx_forms.specs.Steps.{form_or, divisions_any, divisions_in_any, size_aspect, IsNarrowIfAny, IsNarrowLink, AreNarrow, link_then, links_on, scalars_on, leads_to_field}
-use Rattle.rx_forms.specs.Gathered.{met_any, into_fields}
-use Rattle.rx_forms.specs.Worked.{aspect_within, size_otherwise}
+use Rattle.rx_forms.specs.Steps.{form_or, divisions_any, divisions_in_any, size_aspect, link_then, links_on, scalars_on, leads_to_field, met_any, into_fields}
+use Rattle.rx_forms.specs.Links.{IsNarrowIfAny, IsNarrowLink, AreNarrow}
+use Rattle.rx_forms.specs.Expressions.{aspect_within, size_otherwise}
 use Rattle.rx_forms.specs.Fronts.{Front, first_front, after_links, links_within, after_end}
 use Rattle.rx_forms.proofs.Gathering.{division_is}
 use Rattle.rx_layout.specs.Fitting.{fits, IsLowTo, IsFitting}
-use Rattle.rx_layout.specs.Made
-use Rattle.rx_layout.specs.Made.{behind}
+use Rattle.rx_layout.specs.Laid
+use Rattle.rx_layout.specs.Laid.{behind}
 use Rattle.rx_layout.proofs.Stages.{formula_behind, units_behind}
 use Rattle.rx_layout.specs.QueryOf.{unit_rows}
 use Rattle.rx_layout.proofs.PathsFit.{path_fits}
@@ -90,7 +90,7 @@ module _ (domains : List Domain) (m : Graph) where
       let d = ap (λ (x : Front). x.division) e in
       subst (λ (x : Front). IsFitting n x) (sym e) (end_fits domains m n front link narrow w (omega (arith, d, r)) h)
 
-  pub aspect_step : (front new : Front) (x : Option Tree) (f : Linear) → IsNarrowIfAny (limit_of domains m) x → new ≡ Made.after_any domains m x front → aspect_within front.fields front.division x f ≡ true → FitsStep front new
+  pub aspect_step : (front new : Front) (x : Option Tree) (f : Linear) → IsNarrowIfAny (limit_of domains m) x → new ≡ Laid.after_any domains m x front → aspect_within front.fields front.division x f ≡ true → FitsStep front new
   aspect_step front new x f narrow e w n r h =
       let d = ap (λ (x : Front). x.division) e in
       subst (λ (y : Front). IsFitting n y) (sym e) (any_fits domains m n front x f narrow w (omega (arith, d, r)) h)

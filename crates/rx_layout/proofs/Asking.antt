@@ -14,7 +14,8 @@ use Rattle.rx_forms.specs.Linear.{meets, not_below_zero}
 use Rattle.rx_forms.specs.Normal.{Formed, divisions_in, condition}
 use Rattle.rx_forms.specs.Divisions.{divisions, quotients}
 use Rattle.rx_forms.specs.Points.{Represents, Solves, SolvesAny}
-use Rattle.rx_forms.specs.Steps.{IsFormable, IsNarrowLink, IsNumericIfAny, IsNarrowIfAny, divisions_any, divisions_in_any}
+use Rattle.rx_forms.specs.Steps.{divisions_any, divisions_in_any, conditions_from, rows_from, past}
+use Rattle.rx_forms.specs.Links.{IsFormable, IsNarrowLink, IsNumericIfAny, IsNarrowIfAny}
 use Rattle.rx_forms.proofs.Quotients.{parts_of, of_parts}
 use Rattle.rx_forms.proofs.Conditions.{condition_meets}
 use Rattle.rx_forms.proofs.Rows.{solves_condition, rows_of_condition}
@@ -22,7 +23,6 @@ use Rattle.rx_forms.proofs.Matching.{solves_any, rows_of_any}
 use Rattle.rx_forms.proofs.Extension.{two, quotients_length}
 use Rattle.rx_forms.proofs.Carrying.{solved_in}
 use Rattle.rx_layout.specs.QueryOf
-use Rattle.rx_forms.specs.Gathered.{conditions_from, rows_from, past}
 use Rattle.rx_layout.proofs.Lists.{meet_all, split, join}
 
 -- ---- conditions of links

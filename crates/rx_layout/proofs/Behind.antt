@@ -13,7 +13,7 @@ use Rattle.rx_forms.specs.Code.{formed, formed_all}
 use Rattle.rx_linear.proofs.Joining.{both}
 use Rattle.rx_forms.specs.Linear.{minus, above}
 use Rattle.rx_forms.specs.Limits.{is_within}
-use Rattle.rx_forms.specs.Worked.{aspect_within}
+use Rattle.rx_forms.specs.Expressions.{aspect_within}
 use Rattle.rx_forms.specs.Normal.{Formed, condition, divisions_in, bits}
 use Rattle.rx_forms.specs.Divisions.{divisions}
 use Rattle.rx_forms.specs.Steps.{form_or, target_field, size_aspect, divisions_any, divisions_in_any, first_form, size_form, end_form}
@@ -26,8 +26,8 @@ use Rattle.rx_layout.specs.QueryOf
 use Rattle.rx_layout.specs.QueryOf.{goal_step, unit_rows, position_formula, grid_formula, overlay_formula, cover_formula, null_formula, no_multiple}
 use Rattle.rx_types.specs.declared.interval.Interval.{Interval}
 use Rattle.rx_types.specs.Narrow.{places_in_bits}
-use Rattle.rx_layout.specs.Made
-use Rattle.rx_layout.specs.Made.{behind}
+use Rattle.rx_layout.specs.Laid
+use Rattle.rx_layout.specs.Laid.{behind}
 use Rattle.rx_layout.proofs.Stages.{formula_behind, units_behind}
 
 up_to : (a : ℕ) → nat_le a 190 ≡ true → a ≤ 190
@@ -53,13 +53,13 @@ pub no_formula : (front : Front) → formula_behind [] front ≡ front
 no_formula front = same_front front front.division front.division front.rows front.rows (front.conditions ++ []) front.conditions refl refl (append-nil front.conditions)
 
 module _ (domains : List Domain) (m : Graph) where
-  pub no_aspect : (front : Front) → Made.after_any domains m None front ≡ front
+  pub no_aspect : (front : Front) → Laid.after_any domains m None front ≡ front
   no_aspect front = same_front front (front.division + 0) front.division (front.rows ++ []) front.rows front.conditions front.conditions (omega arith) (append-nil front.rows) refl
 
   -- a condition, a First, a Size, a formula and rows
   pub asked_behind : (front : Front) (link : Arrow) (first size : Option Tree) (formula : List Form) (units : List Linear) (q : ℕ)
       → behind (QueryOf.asked_of domains m front.fields front.division (link ∷ []) first size formula units q) front
-      ≡ units_behind units q (formula_behind formula (Made.after_any domains m size (Made.after_any domains m first (after_end domains m front link))))
+      ≡ units_behind units q (formula_behind formula (Laid.after_any domains m size (Laid.after_any domains m first (after_end domains m front link))))
   asked_behind front link first size formula units q =
       let limit = limit_of domains m in
       let n = front.division in
@@ -77,7 +77,7 @@ module _ (domains : List Domain) (m : Graph) where
   taken_behind front link =
       let end = after_end domains m front link in
       asked_behind front link None None [] [] 0
-      ∙ no_units _ ∙ no_formula _ ∙ no_aspect (Made.after_any domains m None end) ∙ no_aspect end
+      ∙ no_units _ ∙ no_formula _ ∙ no_aspect (Laid.after_any domains m None end) ∙ no_aspect end
 
   pub none_behind : (front : Front) → behind (QueryOf.taken_asked domains m front.fields front.division []) front ≡ front
   none_behind front = same_front front (front.division + 0 + 0 + 0) front.division (front.rows ++ []) front.rows (front.conditions ++ []) front.conditions (omega arith) (append-nil front.rows) (append-nil front.conditions)
@@ -99,14 +99,14 @@ module _ (domains : List Domain) (m : Graph) where
       (sym (append_assoc front.conditions (c ∷ []) (d ∷ [])))
 
   pub one_formula : (front : Front) (link : Arrow) (first size : Option Tree) (formula : Form)
-      → formula_behind (formula ∷ []) (Made.after_any domains m size (Made.after_any domains m first (after_end domains m front link)))
+      → formula_behind (formula ∷ []) (Laid.after_any domains m size (Laid.after_any domains m first (after_end domains m front link)))
       ≡ behind (QueryOf.asked_of domains m front.fields front.division (link ∷ []) first size (formula ∷ []) [] 0) front
   one_formula front link first size formula = sym (asked_behind front link first size (formula ∷ []) [] 0 ∙ no_units _)
 
   pub first_formula : (front : Front) (link : Arrow) (first : Option Tree) (formula : Form)
-      → formula_behind (formula ∷ []) (Made.after_any domains m first (after_end domains m front link))
+      → formula_behind (formula ∷ []) (Laid.after_any domains m first (after_end domains m front link))
       ≡ behind (QueryOf.asked_of domains m front.fields front.division (link ∷ []) first None (formula ∷ []) [] 0) front
-  first_formula front link first formula = ap (λ x. formula_behind (formula ∷ []) x) (sym (no_aspect (Made.after_any domains m first (after_end domains m front link)))) ∙ one_formula front link first None formula
+  first_formula front link first formula = ap (λ x. formula_behind (formula ∷ []) x) (sym (no_aspect (Laid.after_any domains m first (after_end domains m front link)))) ∙ one_formula front link first None formula
 
   pub only_formula : (front : Front) (link : Arrow) (formula : Form)
       → formula_behind (formula ∷ []) (after_end domains m front link)
@@ -119,7 +119,7 @@ module _ (domains : List Domain) (m : Graph) where
       let end = after_end domains m front link in
       let k = front.division + divisions_in link.condition in
       ap (λ x. units_behind (unit_rows x places_in_bits) 1 (formula_behind (no_multiple (end_form front.fields) x ∷ []) end)) e
-      ∙ ap (λ x. units_behind (unit_rows k places_in_bits) 1 (formula_behind (no_multiple (end_form front.fields) k ∷ []) x)) (sym (no_aspect (Made.after_any domains m None end) ∙ no_aspect end))
+      ∙ ap (λ x. units_behind (unit_rows k places_in_bits) 1 (formula_behind (no_multiple (end_form front.fields) k ∷ []) x)) (sym (no_aspect (Laid.after_any domains m None end) ∙ no_aspect end))
       ∙ sym (asked_behind front link None None (no_multiple (end_form front.fields) k ∷ []) (unit_rows k places_in_bits) 1)
 
   -- ---- what the code has gathered
@@ -128,10 +128,10 @@ module _ (domains : List Domain) (m : Graph) where
   condition_room front new link h w = subst (λ (x : Front). x.division ≤ 190) (sym h) (up_to (front.division + divisions_in link.condition) (both w).0)
 
   pub aspect_behind : (front : Front) (x : Option Tree) (next : ℕ) (rows : List Linear) → next ≡ front.division + divisions_in_any x → rows ≡ front.rows ++ divisions_any (limit_of domains m) front.fields front.division x
-      → record front { division = next; rows = rows } ≡ Made.after_any domains m x front
+      → record front { division = next; rows = rows } ≡ Laid.after_any domains m x front
   aspect_behind front x next rows e f = same_front front next (front.division + divisions_in_any x) rows (front.rows ++ divisions_any (limit_of domains m) front.fields front.division x) front.conditions front.conditions e f refl
 
-  pub size_is : (type : Option Domain) (front mid : Front) (link : Arrow) (first : Linear) → mid ≡ Made.after_any domains m link.first (after_end domains m front link) → first ≡ first_form (goal_step domains m front.fields front.division link)
+  pub size_is : (type : Option Domain) (front mid : Front) (link : Arrow) (first : Linear) → mid ≡ Laid.after_any domains m link.first (after_end domains m front link) → first ≡ first_form (goal_step domains m front.fields front.division link)
       → Stages.size_behind type first link.size mid ≡ size_form type (goal_step domains m front.fields front.division link)
   size_is (Some t) front mid link first h e = refl
   size_is None front mid link first h e =
@@ -161,15 +161,15 @@ module _ (domains : List Domain) (m : Graph) where
       h ∙ ap (λ (x : Front). units_behind (unit_rows x.division places_in_bits) 1 x) (formula_on mid last (after_end domains m front link) f (no_multiple (end_form front.fields) k8) l e is)
       ∙ whole_behind domains m front link k8 refl
 
-  pub grid_on : (front mid last new : Front) (link : Arrow) (first size : Linear) (f : Form) → Made.target_type domains m link ≡ None → mid ≡ Made.after_target domains m link front → Made.IsTarget domains m link front first size → f ≡ grid_formula first size mid.division
+  pub grid_on : (front mid last new : Front) (link : Arrow) (first size : Linear) (f : Form) → Laid.target_type domains m link ≡ None → mid ≡ Laid.after_target domains m link front → Laid.IsTarget domains m link front first size → f ≡ grid_formula first size mid.division
       → last ≡ formula_behind (f ∷ []) mid → new ≡ units_behind (Stages.grid_units domains m last.division link) 2 last → new ≡ behind (QueryOf.grid_asked domains m front.fields front.division link) front
   grid_on front mid last new link first size f n e t k l h =
       let step = goal_step domains m front.fields front.division link in
-      let behind_first = Made.after_any domains m link.first (after_end domains m front link) in
-      let there = Made.after_any domains m link.size behind_first in
+      let behind_first = Laid.after_any domains m link.first (after_end domains m front link) in
+      let there = Laid.after_any domains m link.size behind_first in
       let q = front.division + divisions_in link.condition + divisions_in_any link.first + divisions_in_any link.size in
       let formula = grid_formula (first_form step) (size_form None step) q in
-      let at = e ∙ ap (λ (x : Option Domain). Made.after_any domains m (size_aspect x link.size) behind_first) n in
+      let at = e ∙ ap (λ (x : Option Domain). Laid.after_any domains m (size_aspect x link.size) behind_first) n in
       let extends = t.extends ∙ ap (λ (x : Option Domain). size_form x step) n in
       let is = k ∙ ap (λ (x : Linear). grid_formula x size mid.division) t.begins ∙ ap (λ (x : Linear). grid_formula (first_form step) x mid.division) extends ∙ ap (λ (x : Front). grid_formula (first_form step) (size_form None step) x.division) at in
       h ∙ ap (λ (x : Front). units_behind (Stages.grid_units domains m x.division link) 2 x) (formula_on mid last there f formula l at is)

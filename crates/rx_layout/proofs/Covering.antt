@@ -15,7 +15,8 @@ use Rattle.rx_forms.specs.declared.linear.Form.{Form, Any}
 use Rattle.rx_forms.specs.Normal.{divisions_in}
 use Rattle.rx_forms.specs.Laws.{fields_on}
 use Rattle.rx_forms.specs.Steps
-use Rattle.rx_forms.specs.Steps.{Step, AreFormable, AreNarrow, first_form, end_form}
+use Rattle.rx_forms.specs.Steps.{Step, first_form, end_form}
+use Rattle.rx_forms.specs.Links.{AreFormable, AreNarrow}
 use Rattle.rx_forms.proofs.Extension.{at_end}
 use Rattle.rx_forms.proofs.Matching.{represents, end_matches}
 use Rattle.rx_layout.specs.declared.goal.Goal.TheVariants.{Cover, Whole}

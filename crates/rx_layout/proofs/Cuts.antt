@@ -6,11 +6,10 @@ use Rattle.rx_types.specs.Environment.{Placed}
 use Rattle.rx_graph.specs.Graph.{Arrow, Graph, type_of}
 use Rattle.rx_forms.specs.Linear.{at}
 use Rattle.rx_forms.specs.Normal.{Formed}
-use Rattle.rx_forms.specs.Points.{Matches}
+use Rattle.rx_forms.specs.Points.{Matches, number_if}
 use Rattle.rx_forms.specs.Steps
 use Rattle.rx_forms.specs.Steps.{Step, target_field, scalars_in, number_form}
-use Rattle.rx_forms.specs.Carried
-use Rattle.rx_forms.specs.Carried.{number_if}
+use Rattle.rx_forms.specs.Points
 use Rattle.rx_forms.proofs.Sums.{at_variable}
 use Rattle.rx_forms.proofs.Extension.{at_end, two}
 
@@ -72,21 +71,21 @@ module _ (domains : List Domain) (m : Graph) (point : List ℤ) where
       more_by_one : (zs : List ℤ) → length (pos n ∷ zs) ≡ suc (length zs)
       more_by_one zs = omega arith
 
-  cut_at : (fields : List Placed) (scalar : ℕ) (front xs : List ℤ) → point ≡ front ++ xs → length front ≡ scalar → NumbersAt scalar fields → length (Carried.numbers_of domains m fields) ≤ length xs
-      → take (length (Carried.numbers_of domains m fields)) xs ≡ Carried.numbers_of domains m fields
+  cut_at : (fields : List Placed) (scalar : ℕ) (front xs : List ℤ) → point ≡ front ++ xs → length front ≡ scalar → NumbersAt scalar fields → length (Points.numbers_of domains m fields) ≤ length xs
+      → take (length (Points.numbers_of domains m fields)) xs ≡ Points.numbers_of domains m fields
   cut_at [] scalar front xs p l h le = take_none xs
     where
       take_none : (zs : List ℤ) → take 0 zs ≡ []
       take_none zs = refl
   cut_at (q ∷ fields) scalar front xs p l h le =
-      cut_one (type_of domains m q.field) q.number scalar (Carried.numbers_of domains m fields) front xs p l h.0
+      cut_one (type_of domains m q.field) q.number scalar (Points.numbers_of domains m fields) front xs p l h.0
       (λ before rest e k more. cut_at fields (scalar + scalars_in (type_of domains m q.field)) before rest e k h.1 more) le
 
   -- the length and the numbers of the scalars
   pub cut_of : (total : ℕ) (division : ℕ) (links : List Arrow) (fields : List Placed) → get_or point 0 (pos 0) ≡ pos total → length links ≡ length fields → Matches point (Steps.formed_after domains m [] 1 division links) fields
-      → length (pos total ∷ Carried.numbers_of domains m fields) ≤ length point → take (length (pos total ∷ Carried.numbers_of domains m fields)) point ≡ pos total ∷ Carried.numbers_of domains m fields
+      → length (pos total ∷ Points.numbers_of domains m fields) ≤ length point → take (length (pos total ∷ Points.numbers_of domains m fields)) point ≡ pos total ∷ Points.numbers_of domains m fields
   cut_of total division links fields t same match long =
-      let numbers = Carried.numbers_of domains m fields in
+      let numbers = Points.numbers_of domains m fields in
       cut_one_more total numbers point refl t long (λ xs e le. cut_at fields 1 (pos total ∷ []) xs e refl (numbers_at [] [] 1 division links fields refl same match) le)
     where
       whole : (total : ℕ) (numbers xs : List ℤ) → take (length (pos total ∷ numbers)) (pos total ∷ xs) ≡ pos total ∷ take (length numbers) xs

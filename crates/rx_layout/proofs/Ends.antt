@@ -14,12 +14,12 @@ use Rattle.rx_proof.specs.Queries.{satisfied}
 use Rattle.rx_forms.specs.declared.linear.Linear.{Linear}
 use Rattle.rx_forms.specs.declared.linear.Form.{Form, All}
 use Rattle.rx_forms.specs.Linear.{not_below_zero}
-use Rattle.rx_forms.specs.Points.{SolvesAny, Matches}
+use Rattle.rx_forms.specs.Points.{SolvesAny, Matches, quotients_any}
 use Rattle.rx_forms.specs.Laws
 use Rattle.rx_forms.specs.Steps
-use Rattle.rx_forms.specs.Steps.{AreFormable, AreNarrow, IsNumericIfAny, IsNarrowIfAny, divisions_in_any}
-use Rattle.rx_forms.specs.Carried
-use Rattle.rx_forms.specs.Carried.{quotients_any}
+use Rattle.rx_forms.specs.Steps.{divisions_in_any, past}
+use Rattle.rx_forms.specs.Links.{AreFormable, AreNarrow, IsNumericIfAny, IsNarrowIfAny}
+use Rattle.rx_forms.specs.Points
 use Rattle.rx_forms.proofs.Matching.{represents}
 use Rattle.rx_forms.proofs.Along.{rows_lead, lead_rows}
 use Rattle.rx_forms.proofs.Carrying.{carried, solved_in, any_length, links_length, numbers_length, along_length}
@@ -27,7 +27,6 @@ use Rattle.rx_forms.proofs.Extension.{two}
 use Rattle.rx_layout.specs.Types.{type_form}
 use Rattle.rx_layout.specs.QueryOf
 use Rattle.rx_layout.specs.QueryOf.{Asked}
-use Rattle.rx_forms.specs.Gathered.{past}
 use Rattle.rx_layout.proofs.Lists.{meet_all, meets_all}
 use Rattle.rx_layout.proofs.Domains.{types_have_forms}
 use Rattle.rx_layout.proofs.Satisfied.{query_meets}
@@ -62,7 +61,7 @@ module _ (domains : List Domain) (m : Graph) (el : IsElaborated domains m) (form
 
   -- the point's first numbers are the length and those of the scalars
   abbrev pub IsCutTo : List ℤ → ℕ → List Placed → Type 0
-  IsCutTo point total fields = take (length (pos total ∷ Carried.numbers_of domains m fields)) point ≡ pos total ∷ Carried.numbers_of domains m fields
+  IsCutTo point total fields = take (length (pos total ∷ Points.numbers_of domains m fields)) point ≡ pos total ∷ Points.numbers_of domains m fields
 
   abbrev pub HasPoint : List ℕ → Asked → ℕ → List Placed → Type 0
   HasPoint path asked total fields = (point : List ℤ) × (length point ≡ asked.variables) × (satisfied (QueryOf.asked_query domains m path asked) point ≡ true) × IsCutTo point total fields
@@ -95,9 +94,9 @@ module _ (domains : List Domain) (m : Graph) (el : IsElaborated domains m) (form
         let e = in_message total fields in
         let gs = Laws.fields_on domains m path in
         let on = Steps.links_on domains m path in
-        let numbers = Carried.numbers_of domains m fields in
+        let numbers = Points.numbers_of domains m fields in
         let count = Steps.scalars_on domains m on in
-        let along = Carried.quotients_along domains m total [] on fields in
+        let along = Points.quotients_along domains m total [] on fields in
         let cq = condition_quotients links e in
         let fq = quotients_any first e in
         let sq = quotients_any size e in

@@ -14,8 +14,8 @@ use Rattle.rx_forms.specs.Normal.{formed_of, bits}
 use Rattle.rx_forms.specs.Steps.{same_form, is_among}
 use Rattle.rx_forms.specs.Code.{number_by, formed, formed_all}
 use Rattle.rx_layout.specs.Fitting.{fits, fits_row}
-use Rattle.rx_layout.specs.Made
-use Rattle.rx_layout.specs.Made.{typed, placed}
+use Rattle.rx_layout.specs.Laid
+use Rattle.rx_layout.specs.Laid.{typed, placed}
 use Rattle.rx_layout.specs.QueryOf.{rows}
 use Rattle.rx_layout.proofs.Gathered.{fits_at_least, fits_all}
 use Rattle.rx_layout.proofs.Stepping.{term_length}
@@ -77,7 +77,7 @@ same_fits n (Some s) (Some t) true f g l k = by_size (size_of s == size_of t)
 -- ---- all fields
 
 module _ (domains : List Domain) (m : Graph) (proper : (f : ℕ) (t : Domain) → type_of domains m f ≡ Some t → IsProper t) (n : ℕ) (e : 1 ≤ n) where
-  types_fit : (fs : List FieldForms) → AllByRecursion (λ g. AreLowTo n g) (formed_all fs) → list_all (fits n) (map (Made.typed_field domains m) fs) ≡ true
+  types_fit : (fs : List FieldForms) → AllByRecursion (λ g. AreLowTo n g) (formed_all fs) → list_all (fits n) (map (Laid.typed_field domains m) fs) ≡ true
   types_fit [] h = refl
   types_fit (f ∷ fs) h = and_true (typed_fits n (type_of domains m f.field) f.variable (λ t i. proper f.field t i) h.0.number.short) (types_fit fs h.1)
 
@@ -85,7 +85,7 @@ module _ (domains : List Domain) (m : Graph) (proper : (f : ℕ) (t : Domain) �
   places_fit [] h = refl
   places_fit (f ∷ fs) h = and_true (placed_fits n f e h.0) (places_fit fs h.1)
 
-  over_fits : (o : Option ℕ) (before : List FieldForms) (f : FieldForms) → AllByRecursion (λ g. AreLowTo n g) (formed_all before) → AreLowTo n (formed f) → fits n (Made.laid_over domains m o before f) ≡ true
+  over_fits : (o : Option ℕ) (before : List FieldForms) (f : FieldForms) → AllByRecursion (λ g. AreLowTo n g) (formed_all before) → AreLowTo n (formed f) → fits n (Laid.laid_over domains m o before f) ≡ true
   over_fits None before f h l = always n
   over_fits (Some x) before f h l = same_fits n (type_of domains m f.field) (type_of domains m x) (is_among x (formed_all before)) (number_by f.variable) (formed_of x (formed_all before)).number l.number (found_low n (formed_all before) x h).number
 
@@ -93,17 +93,17 @@ module _ (domains : List Domain) (m : Graph) (proper : (f : ℕ) (t : Domain) �
   behind_low [] f h l = (l, tt)
   behind_low (x ∷ xs) f h l = (h.0, behind_low xs f h.1 l)
 
-  overlays_fit : (before fs : List FieldForms) → AllByRecursion (λ g. AreLowTo n g) (formed_all before) → AllByRecursion (λ g. AreLowTo n g) (formed_all fs) → list_all (fits n) (Made.laid_from domains m before fs) ≡ true
+  overlays_fit : (before fs : List FieldForms) → AllByRecursion (λ g. AreLowTo n g) (formed_all before) → AllByRecursion (λ g. AreLowTo n g) (formed_all fs) → list_all (fits n) (Laid.laid_from domains m before fs) ≡ true
   overlays_fit before [] h l = refl
   overlays_fit before (f ∷ fs) h l = and_true (over_fits (overlay_of (slice_get m.fields f.field)) before f h l.0) (overlays_fit (before ++ f ∷ []) fs (behind_low before f h l.0) l.1)
 
   pub facts_fit : (d : ℕ) (fs : List FieldForms) (conditions : List Form) → d ≤ n → AllByRecursion (λ g. AreLowTo d g) (formed_all fs) → list_all (fits n) conditions ≡ true
-      → list_all (fits n) (Made.path_facts domains m fs conditions) ≡ true
+      → list_all (fits n) (Laid.path_facts domains m fs conditions) ≡ true
   facts_fit d fs conditions r h k =
       let low = each_wider d n (formed_all fs) r h in
-      let types = map (Made.typed_field domains m) fs in
+      let types = map (Laid.typed_field domains m) fs in
       let places = map placed fs in
-      let overlays = Made.laid_from domains m [] fs in
+      let overlays = Laid.laid_from domains m [] fs in
       join_facts n types _ (types_fit fs low)
       (and_true (all_between n 0 (omega (arith, e)) 0 16777215 (omega arith) (omega arith))
       (join_facts n places _ (places_fit fs low) (join_facts n overlays conditions (overlays_fit [] fs tt low) k)))

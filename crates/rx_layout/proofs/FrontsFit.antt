@@ -14,13 +14,13 @@ use Rattle.rx_forms.specs.declared.linear.Form.{Form}
 use Rattle.rx_forms.specs.Linear.{constant, minus}
 use Rattle.rx_forms.specs.Normal.{Formed, formed_of, condition, divisions_in, bits}
 use Rattle.rx_forms.specs.Limits.{all_kept, is_within}
-use Rattle.rx_forms.specs.Steps.{Step, form_or, end_form, first_form, size_form, number_form, size_division, size_aspect, scalars_in, divisions_any, divisions_in_any, IsNarrowIfAny}
-use Rattle.rx_forms.specs.Worked.{aspect_within}
-use Rattle.rx_forms.specs.Gathered.{met_any}
+use Rattle.rx_forms.specs.Steps.{Step, form_or, end_form, first_form, size_form, number_form, size_division, size_aspect, scalars_in, divisions_any, divisions_in_any, met_any}
+use Rattle.rx_forms.specs.Links.{IsNarrowIfAny}
+use Rattle.rx_forms.specs.Expressions.{aspect_within}
 use Rattle.rx_forms.specs.Fronts.{Front, after_end}
 use Rattle.rx_layout.specs.Fitting.{fits, fits_row}
 pub use Rattle.rx_layout.specs.Fitting.{IsFitting}
-use Rattle.rx_layout.specs.Made
+use Rattle.rx_layout.specs.Laid
 use Rattle.rx_layout.proofs.Bounds.{Under, IsLowTo, weighted_width}
 use Rattle.rx_layout.proofs.Widths.{AreLowTo, short_linear}
 use Rattle.rx_layout.proofs.Stepping.{term_length}
@@ -77,7 +77,7 @@ module _ (domains : List Domain) (m : Graph) where
 
   -- a First or a Size
   pub any_fits : (n : ℕ) (front : Front) (x : Option Tree) (f : Linear) → IsNarrowIfAny (limit_of domains m) x → aspect_within front.fields front.division x f ≡ true → front.division + divisions_in_any x ≤ n
-      → IsFitting n front → IsFitting n (Made.after_any domains m x front)
+      → IsFitting n front → IsFitting n (Laid.after_any domains m x front)
   any_fits n front x f narrow w r h =
       let d = front.division in
       let k = (both {a = nat_le (d + divisions_in_any x) 190} w).1 in

@@ -12,14 +12,14 @@ use Rattle.rx_forms.specs.declared.linear.Linear.{Linear}
 use Rattle.rx_forms.specs.declared.linear.Form.{Form, AtLeast}
 use Rattle.rx_forms.specs.declared.field.FieldForms.{FieldForms}
 use Rattle.rx_forms.specs.Normal.{Formed}
-use Rattle.rx_forms.specs.Steps.{IsNarrowIfAny, form_or, end_form, size_aspect, target_field}
-use Rattle.rx_forms.specs.Worked.{HasFact, HasAspect, size_otherwise}
+use Rattle.rx_forms.specs.Steps.{form_or, end_form, size_aspect, target_field}
+use Rattle.rx_forms.specs.Links.{IsNarrowIfAny}
+use Rattle.rx_forms.specs.Expressions.{HasFact, HasAspect, size_otherwise}
 use Rattle.rx_forms.specs.Fronts.{Front, after_end}
 use Rattle.rx_forms.proofs.Building.{end_goes}
 use Rattle.rx_layout.specs.declared.asked.Asked.{Asked}
 use Rattle.rx_layout.specs.Fitting.{fits, IsLowTo, AreLowTo, IsFitting}
-use Rattle.rx_layout.specs.Laid.{end_front, laid, IsLaid, IsBegun, IsPlaced, HasForms}
-use Rattle.rx_layout.specs.Made.{after_any, path_front, HasProperTypes}
+use Rattle.rx_layout.specs.Laid.{end_front, with_asked, IsLaid, IsBegun, IsPlaced, HasForms, after_any, path_front, HasProperTypes}
 use Rattle.rx_layout.proofs.Stages.{formula_behind, units_behind}
 use Rattle.rx_layout.specs.QueryOf.{unit_rows}
 use Rattle.rx_layout.specs.TypedPath.{TypedPath, TypedEnd, path_of}
@@ -47,7 +47,7 @@ module _ (p : TypedPath) where
       let d = has.next_is in
       let few = has.few in
       record {
-        is = ap (λ (x : Asked). laid (end_front p) x) e ∙ ap (λ (n : ℕ). record (end_front p) { division = n }) d;
+        is = ap (λ (x : Asked). with_asked (end_front p) x) e ∙ ap (λ (n : ℕ). record (end_front p) { division = n }) d;
         more = omega (arith, w, d);
         few = omega (arith, w, few);
         fits = λ n r. let f = has.fits n (omega (arith, w, r)) in record { some = f.some; fields = f.fields; rows = refl; conditions = refl };
@@ -67,7 +67,7 @@ module _ (p : TypedPath) where
       let few = h.few in
       let least = h.more in
       record {
-        is = ap (λ (a : Asked). laid (end_front p) a) e ∙ ap (λ (x : Front). formula_behind (f ∷ []) x) h.is ∙ ap (λ (x : Form). formula_behind (x ∷ []) mid) k;
+        is = ap (λ (a : Asked). with_asked (end_front p) a) e ∙ ap (λ (x : Front). formula_behind (f ∷ []) x) h.is ∙ ap (λ (x : Form). formula_behind (x ∷ []) mid) k;
         more = omega (arith, w, least);
         few = omega (arith, w, few);
         fits = λ n r.
@@ -86,7 +86,7 @@ module _ (p : TypedPath) where
       let least = h.more in
       record {
         more = omega (arith, w, least);
-        is = ap (λ (a : Asked). laid (end_front p) a) e ∙ ap (λ (x : Front). units_behind (unit_rows x.division i) 1 x) h.is ∙ ap (λ (x : Interval). units_behind (unit_rows mid.division x) 1 mid) k;
+        is = ap (λ (a : Asked). with_asked (end_front p) a) e ∙ ap (λ (x : Front). units_behind (unit_rows x.division i) 1 x) h.is ∙ ap (λ (x : Interval). units_behind (unit_rows mid.division x) 1 mid) k;
         few = omega (arith, w, few);
         fits = λ n r.
             let le : asked.work.next ≤ n = omega (arith, w, r) in
@@ -100,12 +100,12 @@ module _ (p : TypedPath) where
   condition_laid link front asked new w1 f narrow fact e h =
       let domains = p.domains in
       let m = p.graph in
-      let there = laid (end_front p) new in
+      let there = with_asked (end_front p) new in
       let has = subst (λ (fs : List Formed). HasFact (limit_of domains m) fs true link.condition asked.work w1 f) (fields_are 190 front asked h) fact in
       let d = sym (next_is 190 front asked h) in
       let within = subst (λ (n : ℕ). AskedFit.Within front n link) (sym d) has.goes.within in
       let is = end_goes domains m front there link asked.work w1 f d (sym (ap (λ (x : Front). x.rows) h.is)) has
-      (ap (λ (a : Asked). laid (end_front p) a) e ∙ ap (λ (x : Front). record x { division = w1.next; rows = w1.rows; conditions = x.conditions ++ f ∷ [] }) h.is) in
+      (ap (λ (a : Asked). with_asked (end_front p) a) e ∙ ap (λ (x : Front). record x { division = w1.next; rows = w1.rows; conditions = x.conditions ++ f ∷ [] }) h.is) in
       let up = ap (λ (x : Front). x.division) is in
       record {
         is = is;
@@ -135,7 +135,7 @@ module _ (e : TypedEnd) where
       let p = path_of e in
       let has = subst (λ (fs : List Formed). HasAspect (limit_of domains m) fs x otherwise w0 w1 f) (sym same) aspect in
       let d = next_is p 190 mid (record { forms = forms; work = w0 }) h in
-      let new = laid front (record { forms = forms; work = w1 }) in
+      let new = with_asked front (record { forms = forms; work = w1 }) in
       let next = has.next ∙ ap (λ (k : ℕ). AskedFit.behind_any k x) d in
       let rows = has.rows ∙ ap (λ (y : Front). AskedFit.rows_any (limit_of domains m) mid.fields y.rows w0.next x) h.is ∙ ap (λ (k : ℕ). AskedFit.rows_any (limit_of domains m) mid.fields mid.rows k x) d in
       let within = subst (λ (k : ℕ). AskedFit.AspectWithin mid k x otherwise) d has.within in

@@ -7,7 +7,7 @@ use Rattle.rx_forms.specs.Normal.{Formed}
 use Rattle.rx_layout.specs.declared.checklist.LinkCheck.{LinkCheck}
 use Rattle.rx_layout.specs.declared.checklist.LinkCheck.TheVariants.{Taken, Position, Grid, Overlay, Cover, Whole}
 use Rattle.rx_layout.specs.Listed.{goal_of}
-use Rattle.rx_layout.specs.Made.{asked_link}
+use Rattle.rx_layout.specs.Laid.{asked_link}
 use Rattle.rx_layout.specs.QueryOf.{asked_by, link_numbered, with_link}
 
 module _ (domains : List Domain) (m : Graph) (node : Node) (n : ℕ) (fields : List Formed) (division : ℕ) where

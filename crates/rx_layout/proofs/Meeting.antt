@@ -14,15 +14,15 @@ use Rattle.rx_forms.specs.declared.linear.Form.{Form}
 use Rattle.rx_forms.specs.Normal.{divisions_in}
 use Rattle.rx_forms.specs.Laws.{fields_on}
 use Rattle.rx_forms.specs.Steps
-use Rattle.rx_forms.specs.Steps.{Step, AreFormable, AreNarrow, IsNumericIfAny, IsNarrowIfAny, divisions_in_any, target_field}
-use Rattle.rx_forms.specs.Carried
+use Rattle.rx_forms.specs.Steps.{Step, divisions_in_any, target_field, past}
+use Rattle.rx_forms.specs.Links.{AreFormable, AreNarrow, IsNumericIfAny, IsNarrowIfAny}
+use Rattle.rx_forms.specs.Points
 use Rattle.rx_forms.proofs.Matching.{represents}
 use Rattle.rx_forms.proofs.Carrying.{links_length, numbers_length}
 use Rattle.rx_layout.specs.declared.goal.Goal.{Goal}
 use Rattle.rx_layout.specs.Goals.{source, IsMet}
 use Rattle.rx_layout.specs.QueryOf
 use Rattle.rx_layout.specs.QueryOf.{Asked}
-use Rattle.rx_forms.specs.Gathered.{past}
 use Rattle.rx_layout.specs.Laws
 use Rattle.rx_layout.specs.Laws.{IsPoint}
 use Rattle.rx_layout.proofs.Even.{query_variables}
@@ -74,7 +74,7 @@ module _ (domains : List Domain) (m : Graph) (el : IsElaborated domains m) (form
       let counted = numbers_length domains m p.total [] Start path p.fields (source goal) p.partial.leads in
       let least = division_least domains m (1 + Steps.scalars_on domains m on) on in
       let more = conditions_least n links in
-      let long = enough (Carried.numbers_of domains m p.fields) p.total (Steps.scalars_on domains m on) n (past n links) (divisions_in_any first) (divisions_in_any size) quotients (length point) counted least more whole in (
+      let long = enough (Points.numbers_of domains m p.fields) p.total (Steps.scalars_on domains m on) n (past n links) (divisions_in_any first) (divisions_in_any size) quotients (length point) counted least more whole in (
         p.total,
         p.fields,
         record { partial = p.partial; met = met p g },

@@ -11,8 +11,8 @@ use Rattle.rx_forms.specs.Linear.{plus}
 use Rattle.rx_forms.specs.Normal.{Formed}
 use Rattle.rx_forms.specs.Divisions.{divisions}
 use Rattle.rx_forms.specs.Limits.{Met, Limited, is_kept, all_kept, is_low, met}
-use Rattle.rx_forms.specs.Steps.{Step, first_form, size_form, condition_form, first_division, size_division, size_aspect, scalars_in, scalars_on, target_field, divisions_any, divisions_in_any, IsNarrowIfAny, IsNarrowLink, next_division, division_after, formed_at, end_form}
-use Rattle.rx_forms.specs.Gathered.{met_any, met_at}
+use Rattle.rx_forms.specs.Steps.{Step, first_form, size_form, condition_form, first_division, size_division, size_aspect, scalars_in, scalars_on, target_field, divisions_any, divisions_in_any, next_division, division_after, formed_at, end_form, met_any, met_at}
+use Rattle.rx_forms.specs.Links.{IsNarrowIfAny, IsNarrowLink}
 use Rattle.rx_forms.specs.Fronts.{Front, step_at, after_link, after_links, link_within, links_within}
 use Rattle.rx_forms.proofs.Gathering.{division_above}
 use Rattle.rx_layout.specs.Fitting.{fits_row}

@@ -21,7 +21,8 @@ use Rattle.rx_forms.specs.Linear.{meets}
 use Rattle.rx_forms.specs.Normal.{formed_of, divisions_in}
 use Rattle.rx_forms.specs.Laws.{fields_on}
 use Rattle.rx_forms.specs.Steps
-use Rattle.rx_forms.specs.Steps.{Step, AreFormable, AreNarrow, first_form, size_form, size_aspect, divisions_in_any, target_field}
+use Rattle.rx_forms.specs.Steps.{Step, first_form, size_form, size_aspect, divisions_in_any, target_field}
+use Rattle.rx_forms.specs.Links.{AreFormable, AreNarrow}
 use Rattle.rx_forms.proofs.Quotients.{of_parts}
 use Rattle.rx_forms.proofs.Extension.{at_end, two}
 use Rattle.rx_forms.proofs.Matching.{represents}

@@ -12,10 +12,10 @@ use Rattle.rx_forms.specs.declared.linear.Linear.{Linear}
 use Rattle.rx_forms.specs.declared.linear.Form.{Form, All}
 use Rattle.rx_forms.specs.declared.builder.Builder.{Builder}
 use Rattle.rx_forms.specs.Steps.{form_or, size_aspect}
-use Rattle.rx_forms.specs.Worked.{size_otherwise}
+use Rattle.rx_forms.specs.Expressions.{size_otherwise}
 use Rattle.rx_forms.specs.Fronts.{Front}
 use Rattle.rx_layout.specs.declared.goal.Goal.{Goal}
-use Rattle.rx_layout.specs.Made.{placed, typed_field, laid_from, behind, path_front}
+use Rattle.rx_layout.specs.Laid.{placed, typed_field, laid_from, behind, path_front}
 use Rattle.rx_layout.specs.QueryOf.{rows, length_form, asked_by, unit_rows, interval_or, rest_interval}
 
 abbrev pub formula_behind : List Form → Front → Front

@@ -11,8 +11,8 @@ use Rattle.rx_forms.specs.Steps
 use Rattle.rx_forms.specs.Steps.{Step, number_form, type_form_any, same_form, is_among, place_forms, target_field}
 use Rattle.rx_forms.specs.Code.{number_by, formed, formed_all}
 use Rattle.rx_layout.specs.Types.{type_form}
-use Rattle.rx_layout.specs.Made
-use Rattle.rx_layout.specs.Made.{typed, placed}
+use Rattle.rx_layout.specs.Laid
+use Rattle.rx_layout.specs.Laid.{typed, placed}
 use Rattle.rx_layout.specs.QueryOf.{rows}
 
 -- ---- variables
@@ -75,19 +75,19 @@ module _ (domains : List Domain) (m : Graph) where
       formed_steps (before ++ Steps.formed_at domains m step ∷ []) (Steps.next_scalar domains m step) (Steps.next_division domains m step) links
       ∙ append_assoc before (Steps.formed_at domains m step ∷ []) _
 
-  typed_same : (f : FieldForms) (s : Step) → formed f ≡ Steps.formed_at domains m s → Made.typed_field domains m f ≡ type_form_any type_form (type_of domains m s.field) s
+  typed_same : (f : FieldForms) (s : Step) → formed f ≡ Steps.formed_at domains m s → Laid.typed_field domains m f ≡ type_form_any type_form (type_of domains m s.field) s
   typed_same f s h =
       ap (λ (x : ℕ). typed (type_of domains m x) f.variable) (ap (λ (x : Formed). x.field) h)
       ∙ typed_step (type_of domains m s.field) f.variable s (ap (λ (x : Formed). x.number) h)
 
-  pub types_same : (fs : List FieldForms) (steps : List Step) → formed_all fs ≡ map (Steps.formed_at domains m) steps → map (Made.typed_field domains m) fs ≡ map (λ s. type_form_any type_form (type_of domains m s.field) s) steps
+  pub types_same : (fs : List FieldForms) (steps : List Step) → formed_all fs ≡ map (Steps.formed_at domains m) steps → map (Laid.typed_field domains m) fs ≡ map (λ s. type_form_any type_form (type_of domains m s.field) s) steps
   types_same [] [] h = refl
   types_same [] (s ∷ steps) h = absurd (nothing_same (Steps.formed_at domains m s) (map (Steps.formed_at domains m) steps) h)
   types_same (f ∷ fs) [] h = absurd (nothing_more (formed f) (formed_all fs) h)
   types_same (f ∷ fs) (s ∷ steps) h =
       let a = typed_same f s (first_same (formed f) (Steps.formed_at domains m s) (formed_all fs) (map (Steps.formed_at domains m) steps) h) in
       let b = types_same fs steps (rest_same (formed f) (Steps.formed_at domains m s) (formed_all fs) (map (Steps.formed_at domains m) steps) h) in
-      ap (λ x. x ∷ map (Made.typed_field domains m) fs) a ∙ ap (λ xs. type_form_any type_form (type_of domains m s.field) s ∷ xs) b
+      ap (λ x. x ∷ map (Laid.typed_field domains m) fs) a ∙ ap (λ xs. type_form_any type_form (type_of domains m s.field) s ∷ xs) b
 
   placed_same : (f : FieldForms) (s : Step) → formed f ≡ Steps.formed_at domains m s → placed f ≡ rows (place_forms (type_of domains m s.field) s)
   placed_same f s h = ap (λ (x : Formed). rows (x.first ∷ x.size ∷ minus (minus bits x.first) x.size ∷ [])) h
@@ -101,7 +101,7 @@ module _ (domains : List Domain) (m : Graph) where
       let b = places_same fs steps (rest_same (formed f) (Steps.formed_at domains m s) (formed_all fs) (map (Steps.formed_at domains m) steps) h) in
       ap (λ x. x ∷ map placed fs) a ∙ ap (λ xs. rows (place_forms (type_of domains m s.field) s) ∷ xs) b
 
-  over_same : (o : Option ℕ) (before : List FieldForms) (f : FieldForms) (s : Step) → s.before ≡ formed_all before → formed f ≡ Steps.formed_at domains m s → Made.laid_over domains m o before f ≡ Steps.overlay_form_any domains m o s
+  over_same : (o : Option ℕ) (before : List FieldForms) (f : FieldForms) (s : Step) → s.before ≡ formed_all before → formed f ≡ Steps.formed_at domains m s → Laid.laid_over domains m o before f ≡ Steps.overlay_form_any domains m o s
   over_same None before f s b h = refl
   over_same (Some x) before f s b h =
       let g = λ (gs : List Formed). (formed_of x gs).number in
@@ -109,13 +109,13 @@ module _ (domains : List Domain) (m : Graph) where
       ∙ laid_step (type_of domains m s.field) (type_of domains m x) (is_among x (formed_all before)) f.variable s (g (formed_all before)) (ap (λ (y : Formed). y.number) h)
       ∙ ap (λ gs. same_form (type_of domains m s.field) (type_of domains m x) (is_among x gs) (term (pos 1) s.scalar (pos 0)) (g gs)) (sym b)
 
-  laid_same : (before : List FieldForms) (f : FieldForms) (s : Step) → s.before ≡ formed_all before → formed f ≡ Steps.formed_at domains m s → Made.laid domains m before f ≡ Steps.overlay_form domains m s
+  laid_same : (before : List FieldForms) (f : FieldForms) (s : Step) → s.before ≡ formed_all before → formed f ≡ Steps.formed_at domains m s → Laid.laid domains m before f ≡ Steps.overlay_form domains m s
   laid_same before f s b h =
-      ap (λ (y : ℕ). Made.laid_over domains m (overlay_of (slice_get m.fields y)) before f) (ap (λ (y : Formed). y.field) h)
+      ap (λ (y : ℕ). Laid.laid_over domains m (overlay_of (slice_get m.fields y)) before f) (ap (λ (y : Formed). y.field) h)
       ∙ over_same (overlay_of (slice_get m.fields s.field)) before f s b h
 
   overlays_from : (gs : List Formed) (before fs : List FieldForms) (scalar division : ℕ) (links : List Arrow) → gs ≡ formed_all before → formed_all fs ≡ map (Steps.formed_at domains m) (Steps.steps_from domains m gs scalar division links)
-      → Made.laid_from domains m before fs ≡ map (λ s. Steps.overlay_form domains m s) (Steps.steps_from domains m gs scalar division links)
+      → Laid.laid_from domains m before fs ≡ map (λ s. Steps.overlay_form domains m s) (Steps.steps_from domains m gs scalar division links)
   overlays_from gs before [] scalar division [] b h = refl
   overlays_from gs before [] scalar division (link ∷ links) b h = absurd (nothing_same _ _ h)
   overlays_from gs before (f ∷ fs) scalar division [] b h = absurd (nothing_more (formed f) (formed_all fs) h)
@@ -126,9 +126,9 @@ module _ (domains : List Domain) (m : Graph) where
       let e = first_same (formed f) (Steps.formed_at domains m step) (formed_all fs) (map (Steps.formed_at domains m) more) h in
       let r = rest_same (formed f) (Steps.formed_at domains m step) (formed_all fs) (map (Steps.formed_at domains m) more) h in
       let n = ap (λ xs. xs ++ Steps.formed_at domains m step ∷ []) b ∙ ap (λ x. formed_all before ++ x ∷ []) (sym e) ∙ sym (formed_append before (f ∷ [])) in
-      ap (λ x. x ∷ Made.laid_from domains m (before ++ f ∷ []) fs) (laid_same before f step b e)
+      ap (λ x. x ∷ Laid.laid_from domains m (before ++ f ∷ []) fs) (laid_same before f step b e)
       ∙ ap (λ xs. Steps.overlay_form domains m step ∷ xs) (overlays_from next (before ++ f ∷ []) fs (Steps.next_scalar domains m step) (Steps.next_division domains m step) links n r)
 
   pub overlays_same : (fs : List FieldForms) (scalar division : ℕ) (links : List Arrow) → formed_all fs ≡ map (Steps.formed_at domains m) (Steps.steps_from domains m [] scalar division links)
-      → Made.laid_from domains m [] fs ≡ map (λ s. Steps.overlay_form domains m s) (Steps.steps_from domains m [] scalar division links)
+      → Laid.laid_from domains m [] fs ≡ map (λ s. Steps.overlay_form domains m s) (Steps.steps_from domains m [] scalar division links)
   overlays_same fs scalar division links h = overlays_from [] [] fs scalar division links refl h

@@ -9,7 +9,7 @@ use Rattle.rx_graph.specs.Elaborated.{IsElaborated}
 use Rattle.rx_graph.specs.Checks.{IsNumbered}
 use Rattle.rx_forms.specs.Laws.{fields_on}
 use Rattle.rx_forms.specs.Steps
-use Rattle.rx_forms.specs.Steps.{AreFormable, AreNarrow}
+use Rattle.rx_forms.specs.Links.{AreFormable, AreNarrow}
 use Rattle.rx_layout.specs.declared.goal.Goal.TheVariants.{Exclusive, Taken, Reached}
 use Rattle.rx_layout.specs.Goals.{MetBy, IsGoal}
 use Rattle.rx_layout.specs.QueryOf

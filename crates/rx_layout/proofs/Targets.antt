@@ -17,7 +17,8 @@ use Rattle.rx_forms.specs.declared.linear.Linear.{Linear}
 use Rattle.rx_forms.specs.Linear.{at, term, minus, meets, not_below_zero}
 use Rattle.rx_forms.specs.Normal.{Formed, bits, divisions_in}
 use Rattle.rx_forms.specs.Points.{Represents, SolvesAny, Matches}
-use Rattle.rx_forms.specs.Steps.{Step, IsNumericIfAny, IsNarrowIfAny, first_form, size_form, size_aspect, end_form, first_division, size_division, target_field, divisions_in_any}
+use Rattle.rx_forms.specs.Steps.{Step, first_form, size_form, size_aspect, end_form, first_division, size_division, target_field, divisions_in_any}
+use Rattle.rx_forms.specs.Links.{IsNumericIfAny, IsNarrowIfAny}
 use Rattle.rx_forms.proofs.Sums.{at_minus, at_term, at_constant}
 use Rattle.rx_forms.proofs.Quotients.{to_le}
 use Rattle.rx_forms.proofs.Matching.{value_if_any, end_matches, bits_value}

@@ -31,10 +31,9 @@ use Rattle.rx_forms.specs.declared.linear.Form.{Form, AtLeast, All}
 use Rattle.rx_forms.specs.Linear.{term}
 use Rattle.rx_forms.specs.Normal.{Formed, divisions_in, linear}
 use Rattle.rx_forms.specs.Divisions.{divisions, division_rows}
-use Rattle.rx_forms.specs.Gathered.{rows_from, past}
 use Rattle.rx_forms.specs.Laws.{fields_on}
 use Rattle.rx_forms.specs.Steps
-use Rattle.rx_forms.specs.Steps.{Step, target_field, scalars_in, size_aspect, divisions_any, divisions_in_any, first_division, size_division, division_forms, type_form_any, place_forms, condition_form}
+use Rattle.rx_forms.specs.Steps.{Step, target_field, scalars_in, size_aspect, divisions_any, divisions_in_any, first_division, size_division, division_forms, type_form_any, place_forms, condition_form, rows_from, past}
 use Rattle.rx_layout.specs.declared.goal.Goal.{Goal}
 use Rattle.rx_layout.specs.declared.goal.Goal.TheVariants as goal
 use Rattle.rx_layout.specs.declared.parts.Parts.{Parts}

@@ -8,7 +8,7 @@ use Rattle.rx_graph.specs.Cycles.{IsLink, IsPath}
 use Rattle.rx_graph.specs.Elaborated.{IsElaborated, IsSource, IsTarget}
 use Rattle.rx_graph.proofs.Unique.{at_null}
 use Rattle.rx_forms.specs.Steps
-use Rattle.rx_forms.specs.Steps.{AreFormable, AreNarrow}
+use Rattle.rx_forms.specs.Links.{AreFormable, AreNarrow}
 use Rattle.rx_layout.specs.declared.goal.Goal.{Goal}
 use Rattle.rx_layout.specs.declared.goal.Goal.TheVariants.{Exclusive, Taken, Reached, Position, Grid, Overlay, Cover, Whole}
 use Rattle.rx_layout.specs.Goals.{source, IsGoal, HasLink}

@@ -16,7 +16,7 @@ use Rattle.rx_graph.specs.declared.message.Node.TheVariants.{Start}
 use Rattle.rx_graph.specs.Graph.{Graph}
 use Rattle.rx_graph.specs.Cycles.{IsPath}
 use Rattle.rx_graph.specs.Checks.{AllHold}
-use Rattle.rx_forms.specs.Carried.{numbers_of}
+use Rattle.rx_forms.specs.Points.{numbers_of}
 use Rattle.rx_linear.specs.declared.row.Row.{Row}
 use Rattle.rx_linear.specs.Units.{is_unit_row}
 use Rattle.rx_linear.specs.Joining.{joined}

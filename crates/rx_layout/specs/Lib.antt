@@ -3,7 +3,6 @@ pub mod Goals
 pub mod Laws
 pub mod Laid
 pub mod Listed
-pub mod Made
 pub mod Parts
 pub mod QueryOf
 pub mod TypedPath

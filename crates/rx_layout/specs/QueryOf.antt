@@ -20,9 +20,8 @@ use Rattle.rx_forms.specs.declared.linear.Linear.{Linear}
 use Rattle.rx_forms.specs.declared.linear.Form.{Form, AtLeast, All, Any}
 use Rattle.rx_forms.specs.Linear.{constant, term, at_least, above, unequal}
 use Rattle.rx_forms.specs.Normal.{Formed, formed_of, divisions_in}
-use Rattle.rx_forms.specs.Gathered.{conditions_from, rows_from, past}
 use Rattle.rx_forms.specs.Laws.{fields_on}
-use Rattle.rx_forms.specs.Steps.{Step, type_form_any, place_forms, overlay_form, condition_form, division_forms, first_form, size_form, size_aspect, end_form, divisions_any, divisions_in_any, target_field, steps_of, division_after, scalars_on, links_on}
+use Rattle.rx_forms.specs.Steps.{Step, type_form_any, place_forms, overlay_form, condition_form, division_forms, first_form, size_form, size_aspect, end_form, divisions_any, divisions_in_any, target_field, steps_of, division_after, scalars_on, links_on, conditions_from, rows_from, past}
 use Rattle.rx_layout.specs.declared.goal.Goal.{Goal}
 use Rattle.rx_layout.specs.declared.goal.Goal.TheVariants.{Exclusive, Taken, Reached, Position, Grid, Overlay, Cover, Whole}
 use Rattle.rx_layout.specs.Types.{type_form, between}

@@ -6,7 +6,7 @@ ghost use Rattle.rx_forms.specs.Linear.{equal, minus};
 ghost use Rattle.rx_forms.specs.Normal.{bits};
 ghost use Rattle.rx_forms.specs.Steps.{is_among};
 ghost use Rattle.rx_forms.specs.Code.{formed_all};
-ghost use Rattle.rx_layout.specs.Made.{placed, as_long, typed_field, laid_over, laid, laid_from};
+ghost use Rattle.rx_layout.specs.Laid.{placed, as_long, typed_field, laid_over, laid, laid_from};
 
 use crate::laws::types_are_proper;
 use crate::types::type_form;

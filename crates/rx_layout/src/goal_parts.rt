@@ -6,10 +6,10 @@ ghost use Rattle.rx_types.specs.Tree.{tree_if_any};
 ghost use Rattle.rx_graph.specs.Cycles.{IsLink};
 ghost use Rattle.rx_graph.specs.Graph.{arrow_of, type_of, overlay_of};
 ghost use Rattle.rx_forms.specs.Code.{limits};
-ghost use Rattle.rx_forms.specs.Steps.{IsNarrowIfAny, target_field};
+ghost use Rattle.rx_forms.specs.Steps.{target_field};
+ghost use Rattle.rx_forms.specs.Links.{IsNarrowIfAny};
 ghost use Rattle.rx_layout.specs.Goals.{IsGoal, HasLink, LeadsToBytes};
-ghost use Rattle.rx_layout.specs.Laid.{end_front, IsLaid, IsAsked};
-ghost use Rattle.rx_layout.specs.Made.{asked_link, behind};
+ghost use Rattle.rx_layout.specs.Laid.{end_front, IsLaid, IsAsked, asked_link, behind};
 ghost use Rattle.rx_layout.specs.QueryOf.{link_numbered, interval_or, rest_interval, taken_asked, position_asked, grid_asked, overlay_asked, cover_asked, cover_to, whole_asked, asked_by, with_link};
 ghost use Rattle.rx_layout.specs.TypedPath.{message_of, path_of};
 

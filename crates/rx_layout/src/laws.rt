@@ -1,7 +1,7 @@
 //! What holds of goals and their queries, each as the clause of a function that does nothing.
 
 ghost use Rattle.rx_layout.specs.Laws.{PointsMeetGoals, GoalsHavePoints, QueriesAreEven, QueriesAreBounded, ListsGoals, GoalsAreChecks};
-ghost use Rattle.rx_layout.specs.Made.{HasSmallTypes, HasProperTypes};
+ghost use Rattle.rx_layout.specs.Laid.{HasSmallTypes, HasProperTypes};
 
 use rx_graph::Elaborated;
 

@@ -23,4 +23,4 @@ pub use laws::{
     queries_are_even,
 };
 pub use path_forms::PathForms;
-pub use querying::{path_query, query};
+pub use querying::query;

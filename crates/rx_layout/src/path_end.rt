@@ -5,7 +5,8 @@ ghost use Rattle.rx_graph.specs.Cycles.{IsLink};
 ghost use Rattle.rx_graph.specs.Graph.{arrow_of};
 ghost use Rattle.rx_forms.specs.Code.{formed_all, limits};
 ghost use Rattle.rx_forms.specs.Fronts.{Front, after_end};
-ghost use Rattle.rx_forms.specs.Steps.{IsFormable, IsNarrowLink, target_field};
+ghost use Rattle.rx_forms.specs.Steps.{target_field};
+ghost use Rattle.rx_forms.specs.Links.{IsFormable, IsNarrowLink};
 ghost use Rattle.rx_layout.specs.Laid.{end_front, IsLaid, IsBegun, IsPlaced};
 ghost use Rattle.rx_layout.specs.TypedPath.{message_of, path_of, typed_end};
 

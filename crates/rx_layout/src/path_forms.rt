@@ -7,8 +7,7 @@ ghost use Rattle.rx_forms.specs.Code.{formed_all};
 ghost use Rattle.rx_forms.specs.Fronts.{front_of};
 ghost use Rattle.rx_layout.specs.Fitting.{IsFitting};
 ghost use Rattle.rx_layout.specs.Goals.{source, IsGoal};
-ghost use Rattle.rx_layout.specs.Laid.{end_front, IsLaid};
-ghost use Rattle.rx_layout.specs.Made.{path_facts, path_front};
+ghost use Rattle.rx_layout.specs.Laid.{end_front, IsLaid, path_facts, path_front};
 ghost use Rattle.rx_layout.specs.QueryOf.{query_for};
 ghost use Rattle.rx_layout.specs.TypedPath.{typed_path, message_of};
 

@@ -38,18 +38,3 @@ pub fn query(
     let forms = PathForms::of(alloc, &checkable, path)?;
     forms.query(alloc, goal)
 }
-
-/// The query of a path to a goal's source, of a message that can be checked.
-pub fn path_query(
-    alloc: Global,
-    message: &Checkable<'_>,
-    path: &Path,
-    goal: &Goal,
-) -> Result<Query, NoMemory>
-    requires goal { IsGoal message.now.domains message.now.graph goal.now }
-    requires path { IsPath message.now.graph Start path.now (source goal.now) }
-    ensures { IfOk result (λ query. query ≡ query_for message.now.domains message.now.graph goal.now path.now) }
-{
-    let forms = PathForms::of(alloc, message, path)?;
-    forms.query(alloc, goal)
-}

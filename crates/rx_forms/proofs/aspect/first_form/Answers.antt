@@ -2,9 +2,10 @@ use Rattle.std.proofs.Common.{◌≡◌, ap, sym, subst, false, IfOk, IfErr, Opt
 use Rattle.std.proofs.lemmas.Result.{IfOk-weaker}
 use Rattle.rx_types.specs.Tree.{Tree, tree_if_any}
 use Rattle.rx_forms.specs.declared.fault.FormFault.TheVariants.{PathLimit}
-use Rattle.rx_forms.specs.Steps.{end_form, form_or, IsNumericIfAny, IsNarrowIfAny}
+use Rattle.rx_forms.specs.Steps.{end_form, form_or}
+use Rattle.rx_forms.specs.Links.{IsNumericIfAny, IsNarrowIfAny}
 use Rattle.rx_forms.specs.Code.{formed_all, limits}
-use Rattle.rx_forms.specs.Worked.{HasAspect, aspect_within}
+use Rattle.rx_forms.specs.Expressions.{HasAspect, aspect_within}
 use Rattle.rx_forms.proofs.Aspects
 use Rattle.rx_forms.proofs.Reaching.{fails_too}
 use Rattle.rx_forms.proofs.aspect.first_form.Goals as goal

@@ -4,9 +4,10 @@ use Rattle.rx_types.specs.Tree.{Tree, tree_if_any}
 use Rattle.rx_forms.specs.declared.fault.FormFault.TheVariants.{PathLimit}
 use Rattle.rx_forms.specs.Linear.{minus}
 use Rattle.rx_forms.specs.Normal.{bits}
-use Rattle.rx_forms.specs.Steps.{form_or, IsNumericIfAny, IsNarrowIfAny}
+use Rattle.rx_forms.specs.Steps.{form_or}
+use Rattle.rx_forms.specs.Links.{IsNumericIfAny, IsNarrowIfAny}
 use Rattle.rx_forms.specs.Code.{formed_all, limits}
-use Rattle.rx_forms.specs.Worked.{HasAspect, aspect_within}
+use Rattle.rx_forms.specs.Expressions.{HasAspect, aspect_within}
 use Rattle.rx_forms.proofs.Aspects
 use Rattle.rx_forms.proofs.Reaching.{fails_too}
 use Rattle.rx_forms.proofs.aspect.open_size.Goals as goal

@@ -7,7 +7,7 @@ use Rattle.rx_forms.specs.Linear.{constant}
 use Rattle.rx_forms.specs.Limits.{is_low}
 use Rattle.rx_forms.specs.Steps.{form_or, size_aspect}
 use Rattle.rx_forms.specs.Code.{formed_all, limits}
-use Rattle.rx_forms.specs.Worked.{HasAspect, aspect_within, size_otherwise}
+use Rattle.rx_forms.specs.Expressions.{HasAspect, aspect_within, size_otherwise}
 use Rattle.rx_forms.proofs.Aspects
 use Rattle.rx_forms.proofs.Reaching.{fails_too}
 use Rattle.rx_forms.proofs.aspect.size_form.Goals as goal

@@ -5,7 +5,7 @@ use Rattle.rx_graph.specs.Graph.{arrow_of}
 use Rattle.rx_forms.specs.declared.field.FieldForms.{FieldForms}
 use Rattle.rx_forms.specs.Limits.{is_within}
 use Rattle.rx_forms.specs.Code.{formed_all, limits}
-use Rattle.rx_forms.specs.Worked.{HasFact}
+use Rattle.rx_forms.specs.Expressions.{HasFact}
 use Rattle.rx_forms.specs.Fronts.{front_of}
 use Rattle.rx_forms.proofs.Building.{end_goes, same_front}
 use Rattle.rx_forms.proofs.builder.add_condition.Goals as goal
@@ -19,27 +19,21 @@ condition_form-requires-clause-narrow c = c.requires.narrow
 pub condition_form-requires-clause-room : goal.condition_form-requires-clause-room
 condition_form-requires-clause-room c = c.requires.room
 
-pub returns-in_err-fact-clause-gone : goal.returns-in_err-fact-clause-gone
-returns-in_err-fact-clause-gone c = IfOk-from_err c.from_residual.result _ c.from_residual.ensures.0
+pub returns-in_err-fact : goal.returns-in_err-fact
+returns-in_err-fact c =
+    record {
+      gone = IfOk-from_err c.from_residual.result _ c.from_residual.ensures.0;
+      within = IfOk-from_err c.from_residual.result _ c.from_residual.ensures.0;
+      limit = let p = err_from_is_err_and c.from_residual.result c.from_residual.ensures.1 in rw (p.1, p.2) (λ e. subst (λ (fs : List FieldForms). is_within (formed_all fs) c.args.builder.now.work.next (tree_of c.args.link.now.condition) ≡ false) c.as_slice.ensures.value (c.in_err-fact.ensures.limit e));
+    }
 
-pub returns-in_err-fact-clause-within : goal.returns-in_err-fact-clause-within
-returns-in_err-fact-clause-within c = IfOk-from_err c.from_residual.result _ c.from_residual.ensures.0
-
-pub returns-in_err-fact-clause-limit : goal.returns-in_err-fact-clause-limit
-returns-in_err-fact-clause-limit c =
-    let p = err_from_is_err_and c.from_residual.result c.from_residual.ensures.1 in
-    rw (p.1, p.2) (λ e. subst (λ (fs : List FieldForms). is_within (formed_all fs) c.args.builder.now.work.next (tree_of c.args.link.now.condition) ≡ false) c.as_slice.ensures.value (c.in_err-fact.ensures.limit e))
-
-pub returns-in_err-push-clause-gone : goal.returns-in_err-push-clause-gone
-returns-in_err-push-clause-gone c = IfOk-from_err c.from_residual-in_err-push.result _ c.from_residual-in_err-push.ensures.0
-
-pub returns-in_err-push-clause-within : goal.returns-in_err-push-clause-within
-returns-in_err-push-clause-within c = IfOk-from_err c.from_residual-in_err-push.result _ c.from_residual-in_err-push.ensures.0
-
-pub returns-in_err-push-clause-limit : goal.returns-in_err-push-clause-limit
-returns-in_err-push-clause-limit c =
-    let p = err_from_is_err_and c.from_residual-in_err-push.result c.from_residual-in_err-push.ensures.1 in
-    rw (p.1, p.2) (λ e. absurd (cc))
+pub returns-in_err-push : goal.returns-in_err-push
+returns-in_err-push c =
+    record {
+      gone = IfOk-from_err c.from_residual-in_err-push.result _ c.from_residual-in_err-push.ensures.0;
+      within = IfOk-from_err c.from_residual-in_err-push.result _ c.from_residual-in_err-push.ensures.0;
+      limit = let p = err_from_is_err_and c.from_residual-in_err-push.result c.from_residual-in_err-push.ensures.1 in rw (p.1, p.2) (λ e. absurd (cc));
+    }
 
 pub returns : goal.returns
 returns c =

@@ -11,7 +11,7 @@ returns-in_err-end c =
     let p = err_from_is_err_and c.from_residual.result c.from_residual.ensures.1 in
     record {
       gone = IfOk-from_err c.from_residual.result _ c.from_residual.ensures.0;
-      low = IfOk-from_err c.from_residual.result _ c.from_residual.ensures.0;
+      within = IfOk-from_err c.from_residual.result _ c.from_residual.ensures.0;
       limit = rw (p.1, p.2) (λ e. c.in_err-end.ensures.limit e);
     }
 
@@ -20,20 +20,17 @@ returns-in_err-keep_place c =
     let p = err_from_is_err_and c.from_residual-in_err-keep_place.result c.from_residual-in_err-keep_place.ensures.1 in
     record {
       gone = IfOk-from_err c.from_residual-in_err-keep_place.result _ c.from_residual-in_err-keep_place.ensures.0;
-      low = IfOk-from_err c.from_residual-in_err-keep_place.result _ c.from_residual-in_err-keep_place.ensures.0;
+      within = IfOk-from_err c.from_residual-in_err-keep_place.result _ c.from_residual-in_err-keep_place.ensures.0;
       limit = rw (p.1, p.2) (λ e. absurd (cc));
     }
 
-pub returns-in_err-push_field-clause-gone : goal.returns-in_err-push_field-clause-gone
-returns-in_err-push_field-clause-gone c = IfOk-from_err c.from_residual-in_err-push_field.result _ c.from_residual-in_err-push_field.ensures.0
-
-pub returns-in_err-push_field-clause-low : goal.returns-in_err-push_field-clause-low
-returns-in_err-push_field-clause-low c = IfOk-from_err c.from_residual-in_err-push_field.result _ c.from_residual-in_err-push_field.ensures.0
-
-pub returns-in_err-push_field-clause-limit : goal.returns-in_err-push_field-clause-limit
-returns-in_err-push_field-clause-limit c =
-    let p = err_from_is_err_and c.from_residual-in_err-push_field.result c.from_residual-in_err-push_field.ensures.1 in
-    rw (p.1, p.2) (λ e. absurd (cc))
+pub returns-in_err-push_field : goal.returns-in_err-push_field
+returns-in_err-push_field c =
+    record {
+      gone = IfOk-from_err c.from_residual-in_err-push_field.result _ c.from_residual-in_err-push_field.ensures.0;
+      within = IfOk-from_err c.from_residual-in_err-push_field.result _ c.from_residual-in_err-push_field.ensures.0;
+      limit = let p = err_from_is_err_and c.from_residual-in_err-push_field.result c.from_residual-in_err-push_field.ensures.1 in rw (p.1, p.2) (λ e. absurd (cc));
+    }
 
 pub overflow_add-builder : goal.overflow_add-builder
 overflow_add-builder c = omega (arith, c.requires.small, c.scalars_in.ensures.one)
@@ -48,6 +45,6 @@ returns c =
           ∙ ap (λ (g : Linear). old ++ (record { field = c.args.field; first = c.args.first; size = c.args.size; end = plus c.args.first c.args.size; number = g }) ∷ []) c.variable_at-variable.ensures)
           (ap (λ (k : ℕ). c.args.builder.now.scalar + k) c.scalars_in.ensures.value)
           refl refl c.in_ok-keep_place.ensures.firsts c.in_ok-keep_place.ensures.sizes refl;
-      low = c.in_ok-end.ensures.low;
+      within = c.in_ok-end.ensures.low;
       limit = tt;
     }

@@ -18,17 +18,16 @@ add_condition-requires-clause-narrow c = c.requires.narrow.condition
 pub add_condition-requires-clause-room : goal.add_condition-requires-clause-room
 add_condition-requires-clause-room c = c.requires.room
 
-pub returns-in_err-add_condition-clause-gone : goal.returns-in_err-add_condition-clause-gone
-returns-in_err-add_condition-clause-gone c = IfOk-from_err c.from_residual.result _ c.from_residual.ensures.0
-
-pub returns-in_err-add_condition-clause-within : goal.returns-in_err-add_condition-clause-within
-returns-in_err-add_condition-clause-within c = IfOk-from_err c.from_residual.result _ c.from_residual.ensures.0
-
-pub returns-in_err-add_condition-clause-limit : goal.returns-in_err-add_condition-clause-limit
-returns-in_err-add_condition-clause-limit c =
-    let p = err_from_is_err_and c.from_residual.result c.from_residual.ensures.1 in
-    let t = Building.link_test c.args.message.now.domains c.args.message.now.graph (front_of c.args.builder.now) (arrow_of c.args.link.now) in
-    rw (p.1, p.2) (λ e. t ∙ off_left _ _ (c.in_err-add_condition.ensures.limit e))
+pub returns-in_err-add_condition : goal.returns-in_err-add_condition
+returns-in_err-add_condition c =
+    record {
+      gone = IfOk-from_err c.from_residual.result _ c.from_residual.ensures.0;
+      within = IfOk-from_err c.from_residual.result _ c.from_residual.ensures.0;
+      limit =
+          let p = err_from_is_err_and c.from_residual.result c.from_residual.ensures.1 in
+          let t = Building.link_test c.args.message.now.domains c.args.message.now.graph (front_of c.args.builder.now) (arrow_of c.args.link.now) in
+          rw (p.1, p.2) (λ e. t ∙ off_left _ _ (c.in_err-add_condition.ensures.limit e));
+    }
 
 pub place-requires-clause-formable : goal.place-requires-clause-formable
 place-requires-clause-formable c = c.requires.formable

@@ -5,7 +5,7 @@ use Rattle.rx_graph.specs.Graph.{arrow_of, type_of}
 use Rattle.rx_forms.specs.declared.field.FieldForms.{FieldForms}
 use Rattle.rx_forms.specs.Steps.{form_or, end_form, size_aspect}
 use Rattle.rx_forms.specs.Code.{formed_all, limits}
-use Rattle.rx_forms.specs.Worked.{HasAspect, aspect_within, size_otherwise}
+use Rattle.rx_forms.specs.Expressions.{HasAspect, aspect_within, size_otherwise}
 use Rattle.rx_forms.specs.Fronts.{front_of}
 use Rattle.rx_forms.proofs.Kept.{off_left}
 use Rattle.rx_forms.proofs.Building
@@ -33,18 +33,17 @@ size_form-requires-clause-room c = let p = c.in_ok-first.ensures.aspect in Build
 pub add_field-requires : goal.add_field-requires
 add_field-requires c = record { small = c.requires.small }
 
-pub returns-in_err-first-clause-gone : goal.returns-in_err-first-clause-gone
-returns-in_err-first-clause-gone c = IfOk-from_err c.from_residual.result _ c.from_residual.ensures.0
-
-pub returns-in_err-first-clause-within : goal.returns-in_err-first-clause-within
-returns-in_err-first-clause-within c = IfOk-from_err c.from_residual.result _ c.from_residual.ensures.0
-
-pub returns-in_err-first-clause-limit : goal.returns-in_err-first-clause-limit
-returns-in_err-first-clause-limit c =
-    let p = err_from_is_err_and c.from_residual.result c.from_residual.ensures.1 in
-    let n = c.args.builder.now.work.next in
-    let x = tree_if_any c.args.link.now.first in
-    rw (p.1, p.2) (λ e. off_left _ _ (subst (λ (fs : List FieldForms). aspect_within (formed_all fs) n x (form_or x (formed_all fs) n (end_form (formed_all fs))) ≡ false) c.as_slice.ensures.value (c.in_err-first.ensures.limit e)))
+pub returns-in_err-first : goal.returns-in_err-first
+returns-in_err-first c =
+    record {
+      gone = IfOk-from_err c.from_residual.result _ c.from_residual.ensures.0;
+      within = IfOk-from_err c.from_residual.result _ c.from_residual.ensures.0;
+      limit =
+          let p = err_from_is_err_and c.from_residual.result c.from_residual.ensures.1 in
+          let n = c.args.builder.now.work.next in
+          let x = tree_if_any c.args.link.now.first in
+          rw (p.1, p.2) (λ e. off_left _ _ (subst (λ (fs : List FieldForms). aspect_within (formed_all fs) n x (form_or x (formed_all fs) n (end_form (formed_all fs))) ≡ false) c.as_slice.ensures.value (c.in_err-first.ensures.limit e)));
+    }
 
 pub returns-in_err-size : goal.returns-in_err-size
 returns-in_err-size c =
@@ -83,6 +82,6 @@ returns c =
     let r = c.add_field.result in
     record {
       gone = on_ok_weaker r (λ h. Building.place_goes domains m type front link w0 w1 w2 f s refl refl a b c.args.field (front_of c.add_field.new.builder) c.requires.target h) c.add_field.ensures.gone;
-      within = on_ok_weaker r (λ h. Building.place_holds domains m type front link w0 w1 w2 f s refl refl a b h) c.add_field.ensures.low;
+      within = on_ok_weaker r (λ h. Building.place_holds domains m type front link w0 w1 w2 f s refl refl a b h) c.add_field.ensures.within;
       limit = fails_too r _ _ (λ h. Building.end_fails domains m type front link w0 w1 w2 f s refl refl a b h) c.add_field.ensures.limit;
     }

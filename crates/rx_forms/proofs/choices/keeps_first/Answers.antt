@@ -1,8 +1,7 @@
 use Rattle.std.proofs.Common.{◌≡◌, ◌≤◌, sym, subst, ◌∙◌, ℕ, List, [], ◌∷◌, get_or, drop, IfOk, Ok, Err, Result, Bool, ◌&&◌, ◌+◌}
 use Rattle.std.specs.List.{list_all}
 use Rattle.rx_forms.specs.Code.{formed_all}
-use Rattle.rx_forms.specs.Gathered.{past}
-use Rattle.rx_forms.specs.Steps.{links_on}
+use Rattle.rx_forms.specs.Steps.{links_on, past}
 use Rattle.rx_forms.specs.Choices.{conditions_within}
 use Rattle.rx_forms.proofs.Chosen.{alone_at, choices, is_some, room_behind, first_fails, first_plain, first_divides, rest_is}
 use Rattle.rx_forms.proofs.choices.keeps_first.Goals as goal

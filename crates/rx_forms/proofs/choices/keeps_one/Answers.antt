@@ -1,7 +1,6 @@
 use Rattle.std.proofs.Common.{sym, ◌∙◌, [], ◌∷◌}
 use Rattle.rx_forms.specs.Code.{formed_all}
-use Rattle.rx_forms.specs.Gathered.{past}
-use Rattle.rx_forms.specs.Steps.{links_on}
+use Rattle.rx_forms.specs.Steps.{links_on, past}
 use Rattle.rx_forms.specs.Choices.{conditions_within}
 use Rattle.rx_forms.proofs.Chosen.{is_some, is_none}
 use Rattle.rx_forms.proofs.choices.keeps_one.Goals as goal

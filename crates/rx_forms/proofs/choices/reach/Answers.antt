@@ -1,9 +1,6 @@
-use Rattle.std.proofs.Common.{◌≡◌, sym, ap, ◌∙◌, ℕ, ◌+◌, ◌≤◌, ◌<◌, arith, false, ◌&&◌}
+use Rattle.std.proofs.Common.{◌≡◌, sym, ap, ◌∙◌, ℕ, ◌+◌, ◌≤◌, ◌<◌, arith}
 use Rattle.std.proofs.lemmas.Result.{err_from_is_err_and, IfOk-from_err}
-use Rattle.rx_forms.specs.Gathered.{into_fields}
-use Rattle.rx_forms.specs.Steps.{links_on}
-use Rattle.rx_forms.specs.Fronts.{Front, first_front, after_links, links_within, after_ends, ends_within, ends_of}
-use Rattle.rx_forms.proofs.Kept.{on_both}
+use Rattle.rx_forms.specs.Fronts.{Front, first_front, after_route, route_within}
 use Rattle.rx_forms.proofs.choices.reach.Goals as goal
 
 few_ends : (s n t : ℕ) → s ≡ 1 → n ≡ t → n < 190 → s + t ≤ 190
@@ -27,28 +24,26 @@ pub returns-in_err-gather_path : goal.returns-in_err-gather_path
 returns-in_err-gather_path c =
     let domains = c.args.message.now.domains in
     let m = c.args.message.now.graph in
-    let into = into_fields (links_on domains m c.args.path.now) in
-    let ends = ends_of false (links_on domains m c.args.path.now) in
+    let path = c.args.path.now in
     let e = c.start-builder.ensures ∙ ap first_front c.requires.count in
     let p = err_from_is_err_and c.from_residual.result c.from_residual.ensures.1 in
     record {
       front = IfOk-from_err c.from_residual.result _ c.from_residual.ensures.0;
       within = IfOk-from_err c.from_residual.result _ c.from_residual.ensures.0;
       room = IfOk-from_err c.from_residual.result _ c.from_residual.ensures.0;
-      limit = rw (p.1, p.2) (λ x. sym (ap (λ (y : Front). links_within domains m y into && ends_within domains m (after_links domains m y into) ends) e) ∙ c.in_err-gather_path.ensures.limit x);
+      limit = rw (p.1, p.2) (λ x. sym (ap (λ (y : Front). route_within domains m y path) e) ∙ c.in_err-gather_path.ensures.gathered.limit x);
     }
 
 pub returns : goal.returns
 returns c =
     let domains = c.args.message.now.domains in
     let m = c.args.message.now.graph in
-    let into = into_fields (links_on domains m c.args.path.now) in
-    let ends = ends_of false (links_on domains m c.args.path.now) in
+    let path = c.args.path.now in
     let e = c.start-builder.ensures ∙ ap first_front c.requires.count in
     let g = c.in_ok-gather_path.ensures in
     record {
-      front = g.gone ∙ ap (λ (y : Front). after_ends domains m (after_links domains m y into) ends) e;
-      within = sym (ap (λ (y : Front). links_within domains m y into && ends_within domains m (after_links domains m y into) ends) e) ∙ on_both _ _ g.within g.ends;
+      front = g.gathered.gone ∙ ap (λ (y : Front). after_route domains m y path) e;
+      within = sym (ap (λ (y : Front). route_within domains m y path) e) ∙ g.gathered.within;
       room = g.room;
       limit = tt;
     }

@@ -6,7 +6,7 @@ use Rattle.rx_types.specs.Tree.{Tree, tree_of, Not}
 use Rattle.rx_types.specs.Narrow.{IsNarrow}
 use Rattle.rx_forms.specs.Normal.{IsCondition, joined}
 use Rattle.rx_forms.specs.Limits.{is_within}
-use Rattle.rx_forms.specs.Worked.{HasFact, spelled_in}
+use Rattle.rx_forms.specs.Expressions.{HasFact, spelled_in}
 use Rattle.rx_forms.specs.Code.{formed_all, limits}
 use Rattle.rx_forms.proofs.Facts
 use Rattle.rx_forms.proofs.Numbers

@@ -1,7 +1,7 @@
 use Rattle.std.proofs.Common.{◌≡◌, subst, ℕ, List, true, false, IfOk, IfErr, OnOk}
 use Rattle.rx_graph.specs.Typed.{Typed}
 use Rattle.rx_forms.specs.declared.fault.FormFault.TheVariants.{PathLimit}
-use Rattle.rx_forms.specs.Gathered.{forms_along, passes_limit}
+use Rattle.rx_forms.specs.Steps.{forms_along, passes_limit}
 use Rattle.rx_forms.proofs.forms.forms_of.Goals as goal
 
 pub over-message-requires : goal.over-message-requires

@@ -1,9 +1,8 @@
 use Rattle.std.proofs.Common.{sym, ap, ◌∙◌, false}
 use Rattle.std.proofs.lemmas.Result.{err_from_is_err_and, IfOk-from_err, on_ok_weaker}
-use Rattle.rx_forms.specs.Gathered.{into_fields}
-use Rattle.rx_forms.specs.Steps.{links_on}
+use Rattle.rx_forms.specs.Steps.{links_on, into_fields}
 use Rattle.rx_forms.specs.Fronts.{Front, front_of, after_links, links_within, after_ends, ends_within, ends_of}
-use Rattle.rx_forms.proofs.Kept.{off_right, on_both}
+use Rattle.rx_forms.proofs.Kept.{off_right, on_both, both_on}
 use Rattle.rx_forms.proofs.Telling
 use Rattle.rx_forms.proofs.Reaching.{fails_too}
 use Rattle.rx_forms.proofs.forms.gather_all.Goals as goal
@@ -26,7 +25,7 @@ returns-in_err-gather_path c =
     record {
       gone = IfOk-from_err c.from_residual.result _ c.from_residual.ensures.0;
       within = IfOk-from_err c.from_residual.result _ c.from_residual.ensures.0;
-      limit = rw (p.1, p.2) (λ e. Telling.fails_before a b d (c.in_err-gather_path.ensures.limit e));
+      limit = rw (p.1, p.2) (λ e. Telling.fails_before a b d (c.in_err-gather_path.ensures.gathered.limit e));
     }
 
 pub gather_ends-requires : goal.gather_ends-requires
@@ -37,11 +36,12 @@ returns c =
     let domains = c.args.message.now.domains in
     let m = c.args.message.now.graph in
     let out = links_on domains m c.args.out.now in
-    let g = c.in_ok-gather_path.ensures in
+    let g = c.in_ok-gather_path.ensures.gathered in
+    let parts = both_on _ _ g.within in
     let r = c.gather_ends.result in
     let t = ap (λ (x : Front). ends_within domains m x out) g.gone in
     record {
       gone = on_ok_weaker r (λ h. h ∙ ap (λ (x : Front). after_ends domains m x out) g.gone) c.gather_ends.ensures.gone;
-      within = on_ok_weaker r (λ h. on_both _ _ g.within (on_both _ _ g.ends (sym t ∙ h))) c.gather_ends.ensures.within;
+      within = on_ok_weaker r (λ h. on_both _ _ parts.0 (on_both _ _ parts.1 (sym t ∙ h))) c.gather_ends.ensures.within;
       limit = fails_too r _ _ (λ h. off_right _ _ (off_right _ _ (sym t ∙ h))) c.gather_ends.ensures.limit;
     }

@@ -1,9 +1,8 @@
 use Rattle.std.proofs.Common.{◌≡◌, sym, ap, ◌∙◌, subst, ◌≤◌, true, false}
 use Rattle.std.proofs.lemmas.Result.{err_from_is_err_and, IfOk-from_err, on_ok_weaker}
-use Rattle.rx_forms.specs.Gathered.{into_fields}
-use Rattle.rx_forms.specs.Steps.{links_on}
+use Rattle.rx_forms.specs.Steps.{links_on, into_fields}
 use Rattle.rx_forms.specs.Fronts.{Front, front_of, after_ends, ends_within, ends_of}
-use Rattle.rx_forms.proofs.Kept.{off_left, off_right}
+use Rattle.rx_forms.proofs.Kept.{off_left, off_right, on_both}
 use Rattle.rx_forms.proofs.Looping
 use Rattle.rx_forms.proofs.Reaching.{both_ok, fails_too}
 use Rattle.rx_forms.proofs.forms.gather_path.Goals as goal
@@ -15,11 +14,12 @@ pub returns-in_err-gather_fields : goal.returns-in_err-gather_fields
 returns-in_err-gather_fields c =
     let p = err_from_is_err_and c.from_residual.result c.from_residual.ensures.1 in
     record {
-      gone = IfOk-from_err c.from_residual.result _ c.from_residual.ensures.0;
-      within = IfOk-from_err c.from_residual.result _ c.from_residual.ensures.0;
-      ends = IfOk-from_err c.from_residual.result _ c.from_residual.ensures.0;
+      gathered = record {
+        gone = IfOk-from_err c.from_residual.result _ c.from_residual.ensures.0;
+        within = IfOk-from_err c.from_residual.result _ c.from_residual.ensures.0;
+        limit = rw (p.1, p.2) (λ e. off_left _ _ (c.in_err-gather_fields.ensures.limit e));
+      };
       room = IfOk-from_err c.from_residual.result _ c.from_residual.ensures.0;
-      limit = rw (p.1, p.2) (λ e. off_left _ _ (c.in_err-gather_fields.ensures.limit e));
     }
 
 pub gather_ends-requires : goal.gather_ends-requires
@@ -47,9 +47,10 @@ returns c =
     let room = subst (λ (x : Front). x.division ≤ 190) (sym g.gone) (Looping.links_room domains m front (into_fields (links_on domains m path)) c.requires.room g.within) in
     let t = ap (λ (x : Front). ends_within domains m x ends) g.gone in
     record {
-      gone = on_ok_weaker r (λ h. h ∙ ap (λ (x : Front). after_ends domains m x ends) g.gone) c.gather_ends.ensures.gone;
-      within = on_ok_weaker r (λ h. g.within) c.gather_ends.ensures.within;
-      ends = on_ok_weaker r (λ h. sym t ∙ h) c.gather_ends.ensures.within;
+      gathered = record {
+        gone = on_ok_weaker r (λ h. h ∙ ap (λ (x : Front). after_ends domains m x ends) g.gone) c.gather_ends.ensures.gone;
+        within = on_ok_weaker r (λ h. on_both _ _ g.within (sym t ∙ h)) c.gather_ends.ensures.within;
+        limit = fails_too r _ _ (λ h. off_right _ _ (sym t ∙ h)) c.gather_ends.ensures.limit;
+      };
       room = both_ok r (λ v. new ≡ after_ends domains m mid ends) (λ v. new.division ≤ 190) (ends_within domains m mid ends ≡ true) (λ v h w. subst (λ (x : Front). x.division ≤ 190) (sym h) (Looping.ends_room domains m mid ends room w)) c.gather_ends.ensures.gone c.gather_ends.ensures.within;
-      limit = fails_too r _ _ (λ h. off_right _ _ (sym t ∙ h)) c.gather_ends.ensures.limit;
     }

@@ -1,8 +1,7 @@
 use Rattle.std.proofs.Common.{◌≡◌, refl, sym, ap, ◌∙◌, subst, ℕ, ◌+◌, ◌≤◌, arith, List, [], ◌∷◌, get_or, drop}
 use Rattle.std.proofs.lemmas.Result.{err_from_is_err_and, IfOk-from_err}
 use Rattle.std.proofs.lemmas.List.{drop_all}
-use Rattle.rx_forms.specs.Gathered.{into_fields}
-use Rattle.rx_forms.specs.Steps.{links_on}
+use Rattle.rx_forms.specs.Steps.{links_on, into_fields}
 use Rattle.rx_forms.specs.Fronts.{Front, front_of, after_links, links_within}
 use Rattle.rx_forms.proofs.Looping
 use Rattle.rx_forms.proofs.gather.gather_fields.Goals as goal

@@ -1,6 +1,5 @@
 use Rattle.std.proofs.Common.{◌≡◌, ◌≤◌, drop}
-use Rattle.rx_forms.specs.Gathered.{into_fields}
-use Rattle.rx_forms.specs.Steps.{links_on}
+use Rattle.rx_forms.specs.Steps.{links_on, into_fields}
 use Rattle.rx_forms.specs.Fronts.{front_of, after_links, links_within}
 use Rattle.rx_forms.proofs.gather.gather_fields.Given as goal
 

@@ -1,7 +1,7 @@
 use Rattle.std.proofs.Common.{◌≡◌, sym, ap, subst, List, true, false, IfErr, OnOk}
 use Rattle.rx_graph.specs.Graph.{Arrow, arrow_of}
 use Rattle.rx_forms.specs.declared.fault.FormFault.TheVariants.{PathLimit}
-use Rattle.rx_forms.specs.Gathered.{into_fields}
+use Rattle.rx_forms.specs.Steps.{into_fields}
 use Rattle.rx_forms.specs.Fronts.{front_of, after_links, links_within}
 use Rattle.rx_forms.proofs.Looping
 use Rattle.rx_forms.proofs.gather.gather_index.Goals as goal

@@ -1,6 +1,5 @@
 use Rattle.std.proofs.Common.{◌≡◌, ◌+◌, ◌≤◌, drop}
-use Rattle.rx_forms.specs.Gathered.{into_fields}
-use Rattle.rx_forms.specs.Steps.{links_on, scalars_on}
+use Rattle.rx_forms.specs.Steps.{links_on, scalars_on, into_fields}
 use Rattle.rx_forms.proofs.gather.scalars_along.Given as goal
 
 abbrev pub invariant-loop-index : goal.invariant-loop-index

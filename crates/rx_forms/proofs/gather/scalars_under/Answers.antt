@@ -1,7 +1,6 @@
 use Rattle.std.proofs.Common.{sym, ap, ◌∙◌, arith, List}
 use Rattle.rx_graph.specs.Graph.{Arrow, arrow_of}
-use Rattle.rx_forms.specs.Gathered.{into_fields}
-use Rattle.rx_forms.specs.Steps.{scalars_on}
+use Rattle.rx_forms.specs.Steps.{scalars_on, into_fields}
 use Rattle.rx_forms.proofs.Looping
 use Rattle.rx_forms.proofs.gather.scalars_under.Goals as goal
 

@@ -15,7 +15,7 @@ use Rattle.rx_forms.specs.declared.fault.FormFault.TheVariants.{PathLimit}
 use Rattle.rx_forms.specs.Linear.{times}
 use Rattle.rx_forms.specs.Divisions.{division_rows}
 use Rattle.rx_forms.specs.Limits.{has_words, all_kept, divided}
-use Rattle.rx_forms.specs.Worked.{divided_by}
+use Rattle.rx_forms.specs.Expressions.{divided_by}
 use Rattle.rx_forms.specs.Normal.{IsNumeric}
 use Rattle.rx_forms.specs.Code.{formed_all, limits}
 use Rattle.rx_forms.proofs.Numbers

@@ -1,5 +1,5 @@
 use Rattle.std.proofs.Common.{◌≡◌, ◌++◌, [], take, drop}
-use Rattle.rx_layout.specs.Made.{laid_from}
+use Rattle.rx_layout.specs.Laid.{laid_from}
 use Rattle.rx_layout.proofs.fields.add_overlays.Given as goal
 
 abbrev pub invariant-loop-place : goal.invariant-loop-place

@@ -1,5 +1,5 @@
 use Rattle.std.proofs.Common.{◌≡◌, ◌++◌, drop, map}
-use Rattle.rx_layout.specs.Made.{placed}
+use Rattle.rx_layout.specs.Laid.{placed}
 use Rattle.rx_layout.proofs.fields.add_places.Given as goal
 
 abbrev pub invariant-loop-field : goal.invariant-loop-field

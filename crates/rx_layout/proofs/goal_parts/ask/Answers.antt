@@ -1,8 +1,7 @@
 use Rattle.std.proofs.Common.{sym, ap, ◌∙◌, subst, arith}
 use Rattle.rx_layout.specs.Goals.{IsGoal}
-use Rattle.rx_layout.specs.Laid.{end_front}
+use Rattle.rx_layout.specs.Laid.{end_front, behind}
 use Rattle.rx_layout.specs.Listed.{goal_of, goal_on}
-use Rattle.rx_layout.specs.Made.{behind}
 use Rattle.rx_layout.specs.QueryOf.{Asked, asked_by}
 use Rattle.rx_layout.specs.declared.goal.Goal.{Goal}
 use Rattle.rx_layout.proofs.Behind

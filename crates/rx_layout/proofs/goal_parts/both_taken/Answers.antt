@@ -4,8 +4,7 @@ use Rattle.rx_graph.specs.Cycles.{IsLink}
 use Rattle.rx_graph.specs.Graph.{Arrow, arrow_of}
 use Rattle.rx_graph.specs.Typed.{Typed}
 use Rattle.rx_forms.specs.Fronts.{Front, after_end}
-use Rattle.rx_layout.specs.Laid.{end_front, IsLaid}
-use Rattle.rx_layout.specs.Made.{behind}
+use Rattle.rx_layout.specs.Laid.{end_front, IsLaid, behind}
 use Rattle.rx_layout.specs.QueryOf.{with_link, taken_asked, link_numbered}
 use Rattle.rx_layout.specs.TypedPath.{TypedPath, TypedEnd, path_of}
 use Rattle.rx_layout.proofs.Behind

@@ -6,8 +6,7 @@ use Rattle.rx_forms.specs.Normal.{Formed}
 use Rattle.rx_forms.specs.Steps.{first_form}
 use Rattle.rx_forms.specs.Fronts.{after_end}
 use Rattle.rx_layout.specs.Fitting.{fits}
-use Rattle.rx_layout.specs.Laid.{end_front}
-use Rattle.rx_layout.specs.Made.{after_any}
+use Rattle.rx_layout.specs.Laid.{end_front, after_any}
 use Rattle.rx_layout.specs.QueryOf.{goal_step, cover_formula}
 use Rattle.rx_layout.specs.TypedPath.{path_of}
 use Rattle.rx_layout.proofs.Behind

@@ -5,12 +5,11 @@ use Rattle.rx_types.specs.declared.interval.Interval.{Interval}
 use Rattle.rx_graph.specs.Graph.{Arrow, arrow_of, limit_of}
 use Rattle.rx_graph.specs.Typed.{Typed}
 use Rattle.rx_forms.specs.Code.{limits}
-use Rattle.rx_forms.specs.Steps.{IsNarrowIfAny}
+use Rattle.rx_forms.specs.Links.{IsNarrowIfAny}
 use Rattle.rx_layout.specs.declared.asked.Asked.{Asked}
 use Rattle.rx_forms.specs.declared.linear.Form.{Form}
 use Rattle.rx_layout.specs.Fitting.{fits, IsLowTo}
-use Rattle.rx_layout.specs.Laid.{end_front}
-use Rattle.rx_layout.specs.Made.{after_target}
+use Rattle.rx_layout.specs.Laid.{end_front, after_target}
 use Rattle.rx_layout.proofs.Stages.{formula_behind, units_behind, grid_units}
 use Rattle.rx_layout.specs.QueryOf.{grid_formula, unit_rows, interval_or, rest_interval}
 use Rattle.rx_layout.specs.TypedPath.{path_of}

@@ -1,7 +1,6 @@
 use Rattle.std.proofs.Common.{sym, subst, arith}
 use Rattle.rx_layout.specs.declared.checklist.LinkCheck.{LinkCheck}
-use Rattle.rx_layout.specs.Laid.{IsAsked}
-use Rattle.rx_layout.specs.Made.{asked_link}
+use Rattle.rx_layout.specs.Laid.{IsAsked, asked_link}
 use Rattle.rx_layout.specs.TypedPath.{path_of}
 use Rattle.rx_layout.proofs.Gathered.{if_ok}
 use Rattle.rx_layout.proofs.Laying.{at_most}

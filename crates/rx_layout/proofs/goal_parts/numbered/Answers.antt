@@ -3,8 +3,7 @@ use Rattle.rx_graph.specs.Cycles.{IsLink}
 use Rattle.rx_graph.specs.Graph.{Arrow, arrow_of, type_of}
 use Rattle.rx_graph.specs.Typed.{Typed}
 use Rattle.rx_forms.specs.Steps.{target_field}
-use Rattle.rx_layout.specs.Laid.{end_front, IsAsked}
-use Rattle.rx_layout.specs.Made.{behind, asked_link}
+use Rattle.rx_layout.specs.Laid.{end_front, IsAsked, behind, asked_link}
 use Rattle.rx_layout.specs.QueryOf.{with_link, link_numbered}
 use Rattle.rx_layout.specs.TypedPath.{TypedEnd}
 use Rattle.rx_layout.proofs.Behind

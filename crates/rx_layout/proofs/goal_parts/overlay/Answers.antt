@@ -6,8 +6,7 @@ use Rattle.rx_forms.specs.declared.linear.Form.{Form}
 use Rattle.rx_forms.specs.Normal.{Formed, formed_of}
 use Rattle.rx_forms.specs.Steps.{size_aspect, size_form, target_field}
 use Rattle.rx_layout.specs.Fitting.{fits, IsLowTo}
-use Rattle.rx_layout.specs.Laid.{end_front}
-use Rattle.rx_layout.specs.Made.{after_target}
+use Rattle.rx_layout.specs.Laid.{end_front, after_target}
 use Rattle.rx_layout.specs.QueryOf.{goal_step, overlay_formula}
 use Rattle.rx_layout.specs.TypedPath.{path_of}
 use Rattle.rx_layout.proofs.Behind

@@ -5,8 +5,7 @@ use Rattle.rx_forms.specs.declared.linear.Linear.{Linear}
 use Rattle.rx_forms.specs.declared.linear.Form.{Form}
 use Rattle.rx_forms.specs.Steps.{size_aspect, first_form, size_form, target_field}
 use Rattle.rx_layout.specs.Fitting.{fits}
-use Rattle.rx_layout.specs.Laid.{end_front}
-use Rattle.rx_layout.specs.Made.{after_target}
+use Rattle.rx_layout.specs.Laid.{end_front, after_target}
 use Rattle.rx_layout.specs.QueryOf.{goal_step, position_formula}
 use Rattle.rx_layout.specs.TypedPath.{path_of}
 use Rattle.rx_layout.proofs.Behind

@@ -1,7 +1,6 @@
 use Rattle.std.proofs.lemmas.Result.{IfOk-from_err}
 use Rattle.std.proofs.Common.{◌≡◌, ℕ, sym, ap, ◌∙◌, subst, ◌+◌, ◌≤◌, ◌<◌, arith}
-use Rattle.rx_forms.specs.Steps.{links_on}
-use Rattle.rx_forms.specs.Gathered.{into_fields}
+use Rattle.rx_forms.specs.Steps.{links_on, into_fields}
 use Rattle.rx_forms.specs.Fronts.{Front, front_of, first_front, after_links}
 use Rattle.rx_forms.proofs.Looping
 use Rattle.rx_layout.proofs.AskedFit.{front_fits}

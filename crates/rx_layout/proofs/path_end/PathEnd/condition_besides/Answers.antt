@@ -3,7 +3,7 @@ use Rattle.std.proofs.Common.{refl, sym, true}
 use Rattle.rx_types.specs.Narrow.{IsNarrow}
 use Rattle.rx_forms.specs.Normal.{IsCondition}
 use Rattle.rx_forms.specs.Code.{limits}
-use Rattle.rx_forms.specs.Worked.{HasFact}
+use Rattle.rx_forms.specs.Expressions.{HasFact}
 use Rattle.rx_layout.specs.Laid.{end_front}
 use Rattle.rx_layout.specs.TypedPath.{message_of, path_of}
 use Rattle.rx_layout.proofs.Gathered.{if_ok}

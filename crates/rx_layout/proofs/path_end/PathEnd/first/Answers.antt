@@ -1,8 +1,9 @@
 use Rattle.std.proofs.lemmas.Result.{IfOk-from_err}
 use Rattle.std.proofs.Common.{refl, sym}
 use Rattle.rx_forms.specs.Code.{limits}
-use Rattle.rx_forms.specs.Steps.{IsNumericIfAny, IsNarrowIfAny, end_form}
-use Rattle.rx_forms.specs.Worked.{HasAspect}
+use Rattle.rx_forms.specs.Steps.{end_form}
+use Rattle.rx_forms.specs.Links.{IsNumericIfAny, IsNarrowIfAny}
+use Rattle.rx_forms.specs.Expressions.{HasAspect}
 use Rattle.rx_layout.specs.Laid.{end_front}
 use Rattle.rx_layout.specs.TypedPath.{message_of, path_of}
 use Rattle.rx_layout.proofs.Laying.{carried, begun_is}

@@ -1,7 +1,7 @@
 use Rattle.std.proofs.Common.{subst}
 use Rattle.rx_graph.specs.Typed.{Typed}
 use Rattle.rx_forms.specs.Code.{limits}
-use Rattle.rx_forms.specs.Steps.{IsFormable, IsNarrowLink, AreFormable, AreNarrow}
+use Rattle.rx_forms.specs.Links.{IsFormable, IsNarrowLink, AreFormable, AreNarrow}
 use Rattle.rx_layout.specs.TypedPath.{TypedEnd, message_of, path_of}
 use Rattle.rx_layout.proofs.path_end.PathEnd.has_forms.Goals as goal
 

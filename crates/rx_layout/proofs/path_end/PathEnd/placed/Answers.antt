@@ -4,8 +4,9 @@ use Rattle.rx_graph.specs.Graph.{Arrow, type_of}
 use Rattle.rx_graph.specs.Typed.{Typed}
 use Rattle.rx_forms.specs.Normal.{Formed}
 use Rattle.rx_forms.specs.Code.{limits}
-use Rattle.rx_forms.specs.Steps.{IsNumericIfAny, IsNarrowIfAny, size_aspect}
-use Rattle.rx_forms.specs.Worked.{HasAspect, size_otherwise}
+use Rattle.rx_forms.specs.Steps.{size_aspect}
+use Rattle.rx_forms.specs.Links.{IsNumericIfAny, IsNarrowIfAny}
+use Rattle.rx_forms.specs.Expressions.{HasAspect, size_otherwise}
 use Rattle.rx_layout.specs.Laid.{end_front}
 use Rattle.rx_layout.specs.TypedPath.{message_of, path_of}
 use Rattle.rx_layout.proofs.Laying.{carried, placed_is}

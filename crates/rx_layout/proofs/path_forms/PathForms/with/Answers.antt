@@ -5,7 +5,7 @@ use Rattle.rx_forms.specs.declared.linear.Form.{AtLeast}
 use Rattle.rx_forms.specs.declared.field.FieldForms.{FieldForms}
 use Rattle.rx_forms.specs.Fronts.{Front}
 use Rattle.rx_layout.specs.Fitting.{IsFitting}
-use Rattle.rx_layout.specs.Made.{path_facts}
+use Rattle.rx_layout.specs.Laid.{path_facts}
 use Rattle.rx_layout.proofs.path_forms.PathForms.with.Goals as goal
 
 pub returns-in_err-facts : goal.returns-in_err-facts

@@ -15,8 +15,7 @@ use Rattle.rx_forms.specs.Linear.{constant, term, plus, minus, less_one}
 use Rattle.rx_forms.specs.Normal.{Formed, bits, linear, condition, comparison, divisions_in, truth_in, agree}
 use Rattle.rx_forms.specs.Divisions.{divisions}
 use Rattle.rx_forms.specs.Limits.{is_low, all_kept, is_within, sides_within}
-use Rattle.rx_forms.specs.Steps.{form_or, divisions_in_any, divisions_any}
-use Rattle.rx_forms.specs.Gathered.{met_any}
+use Rattle.rx_forms.specs.Steps.{form_or, divisions_in_any, divisions_any, met_any}
 
 -- a number with no operands
 abbrev pub IsLeaf : Tree → Type 0

@@ -4,7 +4,7 @@ use Rattle.rx_graph.specs.Cycles.{HasNoCycle, HasPathsUpTo}
 use Rattle.rx_graph.specs.Graph.{Graph, graph_of}
 use Rattle.rx_graph.proofs.Ways.{length-arrows}
 use Rattle.rx_checks.proofs.Kept.{few_or_many}
-use Rattle.rx_checks.proofs.table.paths_at.Goals as goal
+use Rattle.rx_checks.proofs.node.paths_of.Goals as goal
 
 pub paths_to-requires-clause-acyclic : goal.paths_to-requires-clause-acyclic
 paths_to-requires-clause-acyclic c = subst (λ (g : Graph). HasNoCycle g) (sym c.message-graph.ensures.graph) c.is_known.ensures.elaborated.acyclic
