@@ -16,6 +16,7 @@ use Rattle.rx_layout.specs.declared.goal.Goal.{Goal}
 use Rattle.rx_layout.specs.QueryOf.{query_for}
 use Rattle.rx_checks.specs.declared.verdict.Verdict.{Verdict}
 use Rattle.rx_checks.specs.declared.verdict.Verdict.TheVariants as verdict
+use Rattle.rx_checks.specs.Told
 use Rattle.rx_checks.specs.Verdicts
 use Rattle.rx_checks.specs.Verdicts.{IsFirst}
 
@@ -71,13 +72,13 @@ module _ (domains : List Domain) (m : Graph) (splits : ℕ) (goal : Goal) where
   abbrev walk_of : List ℕ → Reached
   walk_of p = Verdicts.walk_of domains m splits goal p
 
-  abbrev pub NoneAtPoint : List (List ℕ) → Type 0
-  NoneAtPoint paths = AllByRecursion (λ p. walk_of p ≢ AtPoint) paths
+  abbrev NoneAtPoint : List (List ℕ) → Type 0
+  NoneAtPoint paths = Told.NoneAtPoint domains m splits goal paths
 
   abbrev NoneOver : List (List ℕ) → Type 0
   NoneOver paths = AllByRecursion (λ p. walk_of p ≡ Over → ⊥) paths
 
-  abbrev pub AreClosed : List (List ℕ) → List Proof → Type 0
+  abbrev AreClosed : List (List ℕ) → List Proof → Type 0
   AreClosed paths proofs = Verdicts.AreClosed domains m splits goal paths proofs
 
   pub closed_none : (paths : List (List ℕ)) (proofs : List Proof) → AreClosed paths proofs → NoneAtPoint paths
@@ -104,7 +105,7 @@ module _ (domains : List Domain) (m : Graph) (splits : ℕ) (goal : Goal) where
       let c : Verdicts.IsClosedBy domains m splits goal path proof = record { left = p.0; past = p.1; closed = p.2 } in
       subst (λ (ps : List Proof). AreClosed (before ++ path ∷ []) ps) (sym n) (closed_more before old path proof h c)
 
-  abbrev pub IsVerdict : List (List ℕ) → Verdict → Type 0
+  abbrev IsVerdict : List (List ℕ) → Verdict → Type 0
   IsVerdict paths v = Verdicts.IsVerdict domains m splits goal paths v
 
   -- a walk is over behind paths that are closed

@@ -1,7 +1,6 @@
 //! The verdict on one check, from the verdict on the paths so far and the walk of one more.
 
 ghost use Rattle.std.specs.Prelude.{◌≡◌, ◌≢◌, List, [], ◌∷◌, ◌++◌, ℕ, IfOk, MatchOption};
-ghost use Rattle.std.specs.List.{AllByRecursion};
 ghost use Rattle.rx_types.specs.Domain.{Domain};
 ghost use Rattle.rx_graph.specs.Graph.{Graph};
 ghost use Rattle.rx_prover.specs.Walk.{AtPoint};
@@ -9,7 +8,7 @@ ghost use Rattle.rx_layout.specs.Goals.{is_universal};
 ghost use Rattle.rx_layout.specs.Laws.{IsPoint};
 ghost use Rattle.rx_checks.specs.ReachedPath.{Asks, query_at};
 ghost use Rattle.rx_checks.specs.Verdicts.{walk_of, AreClosed, IsVerdict};
-ghost use Rattle.rx_checks.specs.Told.{told, IsNextVerdict};
+ghost use Rattle.rx_checks.specs.Told.{told, NoneAtPoint, IsNextVerdict};
 
 use crate::fault::NoMemory;
 use crate::reached_path::ReachedPath;
@@ -65,7 +64,7 @@ fn found(
 ) -> Result<Verdict, NoMemory>
     requires goal { Asks goal.now path.now }
     requires point { IsPoint (query_at path.now goal.now) point.now }
-    ensures { IfOk result (λ verdict. (splits : ℕ) (before : List (List ℕ)) → walk_of path.now.domains path.now.graph splits goal.now path.now.path ≡ AtPoint → AllByRecursion (λ p. walk_of path.now.domains path.now.graph splits goal.now p ≢ AtPoint) before → IsVerdict path.now.domains path.now.graph splits goal.now (before ++ path.now.path ∷ []) verdict) }
+    ensures { IfOk result (λ verdict. (splits : ℕ) (before : List (List ℕ)) → NoneAtPoint path.now.domains path.now.graph splits goal.now before → walk_of path.now.domains path.now.graph splits goal.now path.now.path ≡ AtPoint → IsVerdict path.now.domains path.now.graph splits goal.now (before ++ path.now.path ∷ []) verdict) }
 {
     let evidence = path.evidence(alloc, goal, point)?;
     Ok(told(!is_universal(goal), evidence))

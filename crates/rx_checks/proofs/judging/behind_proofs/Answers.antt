@@ -7,7 +7,8 @@ use Rattle.rx_checks.specs.declared.verdict.Verdict.{Verdict}
 use Rattle.rx_checks.specs.declared.verdict.Verdict.TheVariants as verdict
 use Rattle.rx_checks.specs.ReachedPath.{query_at}
 use Rattle.rx_checks.specs.Verdicts.{walk_of, AreClosed, IsVerdict}
-use Rattle.rx_checks.proofs.Judged.{NoneAtPoint, says, if_ok, closed_none, closed_push, undecided_last}
+use Rattle.rx_checks.specs.Told.{NoneAtPoint}
+use Rattle.rx_checks.proofs.Judged.{says, if_ok, closed_none, closed_push, undecided_last}
 use Rattle.rx_checks.proofs.judging.behind_proofs.Goals as goal
 
 pub returns-in_ok-push-in-NoPoint : goal.returns-in_ok-push-in-NoPoint
@@ -28,9 +29,9 @@ returns-in-Point c =
     let r = walk_of p.domains p.graph c.args.splits goal p.path in
     let a = says q c.args.splits (Point c.in-Point.point) r (subst (λ (x : Answer). AnswersReached q c.args.splits x r) c.in-Point.is c.in_ok-proof.ensures) in
     if_ok c.found.result
-    (λ (v : Verdict). (splits : ℕ) (before : List (List ℕ)) → walk_of p.domains p.graph splits goal p.path ≡ AtPoint → NoneAtPoint p.domains p.graph splits goal before → IsVerdict p.domains p.graph splits goal (before ++ p.path ∷ []) v)
+    (λ (v : Verdict). (splits : ℕ) (before : List (List ℕ)) → NoneAtPoint p.domains p.graph splits goal before → walk_of p.domains p.graph splits goal p.path ≡ AtPoint → IsVerdict p.domains p.graph splits goal (before ++ p.path ∷ []) v)
     (λ (v : Verdict). (before : List (List ℕ)) → AreClosed p.domains p.graph c.args.splits goal before c.args.proofs.items → IsVerdict p.domains p.graph c.args.splits goal (before ++ p.path ∷ []) v)
-    (λ v f before h. f c.args.splits before a.0 (closed_none p.domains p.graph c.args.splits goal before c.args.proofs.items h))
+    (λ v f before h. f c.args.splits before (closed_none p.domains p.graph c.args.splits goal before c.args.proofs.items h) a.0)
     c.found.ensures
 
 pub returns-in-Undecided : goal.returns-in-Undecided
